@@ -1,0 +1,4 @@
+-- What the contracts of `bits` cite.
+pub mod Bits
+pub mod Field
+pub mod Window

@@ -1,0 +1,10 @@
+pub mod ReadLaws
+pub mod Tests
+pub mod RoundTrip
+pub mod Absent
+pub mod LayLaws
+pub mod IdentityLaws
+pub mod ListLaws
+pub mod ShapeLaws
+pub mod TableLaws
+pub mod Going

@@ -1,0 +1,24 @@
+-- `frame::reader::barred` meets its contract.
+-- Assumes nothing.
+use mathlib.Core.Path.{ap}
+use native.Mathlib.Omega.{arith}
+use borrow.Author.Needs.{needs}
+use Rattle.frame.proofs.reader.barred.Statement.{statement}
+use Rattle.frame.proofs.reader.barred.Tie as tie
+use Rattle.frame.proofs.reader.barred.Reads as reads
+use Rattle.frame.proofs.reader.barred.Lts as lts
+
+sub-before : tie.Need-sub-before
+sub-before c = search needs
+
+returns : tie.Need-returns
+returns c = rw (c .before .if1 .taken, c .if2 .taken)
+
+returns-2 : tie.Need-returns-2
+returns-2 c = rw (c .before .if1 .taken)
+
+returns-3 : tie.Need-returns-3
+returns-3 c = rw (c .if1 .left)
+
+pub barred-spec : {M : Type 1} → statement M
+barred-spec = tie.close (tie.spec sub-before returns returns-2 returns-3)

@@ -1,0 +1,44 @@
+-- `frame::reader::read_element` meets its contract: the shape's rows under the condition, or none of them.
+-- Assumes nothing.
+use mathlib.Core.Path.{sym, _∙_}
+use native.Mathlib.Omega.{arith}
+use Rattle.frame.specs.Shape.{rowsOf, conditionsOf}
+use Rattle.frame.proofs.Absent.{present-when, shut-element, reads-off, length-shape}
+use Rattle.frame.proofs.ShapeLaws.{shape-under}
+use borrow.Author.Needs.{needs}
+use Rattle.frame.proofs.reader.read_element.Statement.{statement}
+use Rattle.frame.proofs.reader.read_element.Tie as tie
+use Rattle.frame.proofs.reader.read_element.Reads as reads
+use Rattle.frame.proofs.reader.read_element.Lts as lts
+use Rattle.frame.proofs.reader.read_shape.Reads as read-shape-reads
+use Rattle.frame.proofs.reader.there.Reads as there-reads
+
+there-requires : tie.Need-there-requires
+there-requires c κs = search needs
+
+read-shape-requires : tie.Need-read-shape-requires
+read-shape-requires c κs = search needs
+
+same-length : tie.Need-same-length
+same-length c = search needs
+
+returns : tie.Need-returns
+returns c =
+    let s = c .before .before .before .before .before .before .before .before .before in
+    shape-under (s .args .element .1) _ _ (s .args .at) (s .args .place) (s .args .values .now) _ _
+    (present-when (s .args .element .0) (s .args .values .now) (s .args .place) (s .pre .2) ∙ sym (c .before .before .before .before .before .there .ensures) ∙ c .before .before .before .before .if1 .taken) (c .before .before .read-shape .ensures)
+
+same-length-2 : tie.Need-same-length-2
+same-length-2 c = search needs
+
+returns-2 : tie.Need-returns-2
+returns-2 c =
+    let s = c .before .before .before .before .before in
+    let e = s .args .element in
+    reads-off (s .args .values .now) (s .args .place) _ (shut-element (e .0) (e .1) (s .args .place) (s .args .values .now) (sym (c .before .there .ensures) ∙ c .if1 .left) (s .pre .2)) (s .pre .2)
+    (omega (arith, length-shape (e .1) (conditionsOf (e .0)) (s .args .place))) _ (s .args .at)
+
+pub read-element-spec : {M : Type 1} → statement M
+read-element-spec =
+    tie.close
+    (tie.spec there-requires read-shape-requires same-length returns same-length-2 returns-2)

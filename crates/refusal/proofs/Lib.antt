@@ -1,0 +1,2 @@
+-- The theorems of `refusal` beside its contracts.
+pub mod Unique
