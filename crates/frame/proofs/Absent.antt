@@ -19,14 +19,10 @@ use Rattle.frame.specs.declared.Items.the-variants.{Numbers, Letters}
 use Rattle.frame.specs.declared.Shape.{Shape}
 use Rattle.frame.specs.declared.Shape.the-variants.{Number, Choice, Identity, Ending, Missing, Nothing}
 use Rattle.frame.specs.declared.Shape.the-variants as shape
-use Rattle.frame.specs.declared.Step.the-variants as step
-use Rattle.frame.specs.declared.Put.the-variants as put
 use Rattle.frame.specs.declared.When.{When}
 use Rattle.frame.specs.declared.When.the-variants.{Always, Is}
-use Rattle.frame.specs.Walk.{Clear, Reads}
-use Rattle.frame.specs.Lay.{Lays}
-use Rattle.frame.proofs.ReadLaws.{row-off, reads-on, reads-none}
-use Rattle.frame.proofs.LayLaws.{lay-off, lays-on, lays-none}
+use Rattle.frame.specs.Walk.{Clear}
+use Rattle.frame.proofs.Walks.{Walk}
 use Rattle.frame.proofs.Tests.{and-false}
 
 -- ---- places that hold 0
@@ -58,25 +54,13 @@ shut-append vs p (r ∷ a) b (more e s) t =
     let n : p + suc (length a) ≡ p + 1 + length a = omega arith in
     more e (shut-append vs (p + 1) a b s (subst (λ (n : ℕ). Shut vs n b) n t))
 
--- a walk that passes each row that is not there passes them all
-module _ (vs : List ℕ) (G : ℕ → List Row → Type 0) (nil : (p : ℕ) → G p [])
-    (off : (r : Row) (p : ℕ) → p < length vs → present (take p vs) (r .hang) ≡ false → getD vs p 0 ≡ 0 → G p (r ∷ []))
-    (join : (a b : List Row) (p : ℕ) → G p a → G (p + length a) b → G p (a ++ b)) where
-  shut-walk : (p : ℕ) (rows : List Row) → Shut vs p rows → Clear vs p → p + length rows ≤ length vs → G p rows
-  shut-walk p [] none z h = nil p
-  shut-walk p (r ∷ rows) (more e s) z h =
-      join (r ∷ []) rows p (off r p (omega arith) e (z p (omega arith))) (shut-walk (p + 1) rows s (λ q l. z q (omega arith)) (omega arith))
-
-module _ (vs : List ℕ) (p : ℕ) (rows : List Row) (s : Shut vs p rows) (z : Clear vs p) (room : p + length rows ≤ length vs) where
-  pub reads-off : (bits : List Bool) (at : ℕ) → Reads rows bits at p vs vs (step.Next at)
-  reads-off bits at =
-      shut-walk vs (λ q rows. Reads rows bits at q vs vs (step.Next at)) (λ q. reads-none bits at q vs) (λ r q. row-off r bits at q vs)
-      (λ a b q. reads-on a b bits at q vs vs at vs (step.Next at)) p rows s z room
-
-  pub lays-off : (values : List ℕ) (at : ℕ) (out : List ℕ) → Lays rows values at p vs vs out out (put.Next at)
-  lays-off values at out =
-      shut-walk vs (λ q rows. Lays rows values at q vs vs out out (put.Next at)) (λ q. lays-none values at q vs out) (λ r q. lay-off r values at q vs out)
-      (λ a b q f. lays-on a b values at at q vs vs vs out out out f (put.Next at)) p rows s z room
+-- a walk passes rows that are not there
+pub passes : (W : Walk) (at p : ℕ) (x : W .State) (rows : List Row) → Shut (W .values x) p rows → Clear (W .values x) p → p + length rows ≤ length (W .values x)
+    → W .Goes rows at p x x (W .next at)
+passes W at p x [] none z h = W .none at p x
+passes W at p x (r ∷ rows) (more e s) z h =
+    W .join (r ∷ []) rows at at p x x x (W .next at) (W .off r at p x (omega arith) e (z p (omega arith)))
+    (passes W at (p + 1) x rows s (λ q l. z q (omega arith)) (omega arith))
 
 -- conditions on a place that holds 0
 none-is : (done : List ℕ) (q v : ℕ) → getD done q 0 ≡ 0 → 0 < v → present done (is q v ∷ []) ≡ false

@@ -26,9 +26,9 @@ use Rattle.frame.specs.Shape.{rowsOf, span, conditionsOf, unrolled}
 use Rattle.frame.specs.Table.{tableOf, ssType, actionType}
 use Rattle.frame.specs.Frame.{rows, read, readBytes, asReading, readingOf}
 use Rattle.frame.specs.Walk.{whole, Clear, onward, Reads, none}
-use Rattle.frame.proofs.ReadLaws.{Seen, seen, whole-length}
+use Rattle.frame.proofs.ReadLaws.{reading, whole-length}
 use Rattle.frame.proofs.Absent.{length-shape}
-use Rattle.frame.proofs.IdentityLaws.{clear-after}
+use Rattle.frame.proofs.Walks.{clear-after}
 use Rattle.frame.proofs.TableLaws.{Placed, placed-none, placed-more, first}
 
 pub record Going (es : List Element) (bits : List Bool) (from : ℕ) (vs : List ℕ) (at p k : ℕ) : Type 0 where
@@ -67,7 +67,7 @@ module _ (es : List Element) (bits : List Bool) (from : ℕ) (vs vs′ : List �
       record {
         same = on ∙ ap (onward rest bits _) t ∙ ap₂ (λ (m q : ℕ). readRows (unrolled (drop (k + 1) es) (p + m)) (take (p + q) vs′) at′ (drop at′ bits)) (sym d) n;
         placed = subst (λ (m : ℕ). Placed es (p + m) (k + 1)) (sym d) (placed-more es p k e (now .placed) inside is);
-        clear = λ q h. clear-after f (now .clear) q (omega arith);
+        clear = λ q h. clear-after (reading bits) (rowsOf (e .1) (conditionsOf (e .0)) p) at at′ p vs vs′ s t f (now .clear) q (omega arith);
         size = f .size ∙ now .size;
         passed = omega arith;
       }

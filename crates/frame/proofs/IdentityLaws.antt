@@ -4,6 +4,7 @@ use Prim.Native.Nat.{ℕ, zero, suc, _+_, _-_, _≤_, _<_}
 use mathlib.Core.Path.{_≡_, refl, ap, sym, _∙_, subst}
 use mathlib.Core.Bool.{Bool, true, false}
 use mathlib.Core.List.{List, [], _∷_}
+use mathlib.Core.Logic.{⊎-elim}
 use native.Mathlib.Omega.{arith}
 use borrow.Author.Tests.{lt-leb, le-leb, ne-eqb, eq-eqb}
 use lib.ListN.{length, take, drop, getD}
@@ -12,23 +13,9 @@ use Rattle.refusal.specs.declared.Refusal.{Refusal}
 use Rattle.refusal.specs.declared.Refusal.the-variants.{Reserved}
 use Rattle.frame.specs.Row.{Row, Condition, is, atLeast, present}
 use Rattle.frame.specs.Shape.{number, identity}
-use Rattle.frame.specs.Walk.{Clear, Reads}
-use Rattle.frame.specs.declared.Step.{Step}
-use Rattle.frame.specs.declared.Step.the-variants.{Next, Refused}
-use Rattle.frame.proofs.ReadLaws.{reads-on, reads-stop, reads-under}
-use Rattle.frame.proofs.Absent.{Shut, none, more, reads-off}
-
--- ---- places after a step
-module _ {rows : List Row} {bits : List Bool} {at p : ℕ} {vs vs′ : List ℕ} {s : Step} (f : Reads rows bits at p vs vs′ s) where
-  pub clear-after : Clear vs p → Clear vs′ (p + length rows)
-  clear-after z q h =
-      let n = p + length rows in
-      let e : n + (q - n) ≡ q = omega arith in
-      ap (λ (k : ℕ). getD vs′ k 0) (sym e) ∙ sym (getD-drop n vs′ (q - n) 0) ∙ ap (λ (l : List ℕ). getD l (q - n) 0) (f .stays)
-      ∙ getD-drop n vs (q - n) 0 ∙ z (n + (q - n)) (omega arith)
-
-  pub value-before : (q : ℕ) → q < p → getD vs′ q 0 ≡ getD vs q 0
-  value-before q h = sym (getD-take p vs′ q 0 h) ∙ ap (λ (l : List ℕ). getD l q 0) (f .before) ∙ getD-take p vs q 0 h
+use Rattle.frame.specs.Walk.{Clear}
+use Rattle.frame.proofs.Walks.{Walk, goes-then, clear-after, value-before}
+use Rattle.frame.proofs.Absent.{none, more, passes}
 
 -- ---- a condition on the form, which stands before
 module _ (vs : List ℕ) (p n : ℕ) (h : p < n) where
@@ -58,59 +45,57 @@ ssi p = number 24 (atLeast p 2 ∷ [])
 abbrev extension : ℕ → Row
 extension p = number 24 (is p 3 ∷ [])
 
-module _ (bits : List Bool) (p : ℕ) (vs : List ℕ) (room : p + 4 ≤ length vs) where
+module _ (W : Walk) (p : ℕ) (x : W .State) (room : p + 4 ≤ length (W .values x)) where
   -- form 3 has an extension, any other none
-  pub extension-on : (at : ℕ) (vs′ : List ℕ) (s : Step) → getD vs p 0 ≡ 3 → Reads (number 24 [] ∷ []) bits at (p + 3) vs vs′ s → Reads (extension p ∷ []) bits at (p + 3) vs vs′ s
-  extension-on at vs′ s e f = reads-under 24 0 16777216 Reserved 0 [] (is p 3 ∷ []) [] bits at (p + 3) vs vs′ s (form-is vs p (p + 3) (omega arith) 3 e) f
+  pub extension-on : (at : ℕ) (y : W .State) (r : W .Result) → getD (W .values x) p 0 ≡ 3 → W .Goes (number 24 [] ∷ []) at (p + 3) x y r → W .Goes (extension p ∷ []) at (p + 3) x y r
+  extension-on at y r e f = W .under 24 0 16777216 Reserved 0 [] (is p 3 ∷ []) [] at (p + 3) x y r (form-is (W .values x) p (p + 3) (omega arith) 3 e) f
 
-  pub extension-off : (at : ℕ) → (getD vs p 0 ≡ 3 → ⊥) → Clear vs (p + 3) → Reads (extension p ∷ []) bits at (p + 3) vs vs (Next at)
-  extension-off at e z = reads-off vs (p + 3) (extension p ∷ []) (more (form-not vs p (p + 3) (omega arith) 3 e) none) z (omega arith) bits at
+  pub extension-off : (at : ℕ) → (getD (W .values x) p 0 ≡ 3 → ⊥) → Clear (W .values x) (p + 3) → W .Goes (extension p ∷ []) at (p + 3) x x (W .next at)
+  extension-off at e z = passes W at (p + 3) x (extension p ∷ []) (more (form-not (W .values x) p (p + 3) (omega arith) 3 e) none) z (omega arith)
 
   -- form 1 is an SNA alone
-  pub form-sna : (at : ℕ) (vs′ : List ℕ) (s : Step) → getD vs p 0 ≡ 1 → Clear vs (p + 1) → Reads (number 8 [] ∷ []) bits at (p + 1) vs vs′ s
-      → Reads (sna p ∷ ssi p ∷ extension p ∷ []) bits at (p + 1) vs vs′ s
-  form-sna at vs′ s e z f = go s (reads-under 8 0 256 Reserved 0 [] (is p 1 ∷ []) [] bits at (p + 1) vs vs′ s (form-is vs p (p + 1) (omega arith) 1 e) f)
+  pub form-sna : (at : ℕ) (y : W .State) (r : W .Result) → getD (W .values x) p 0 ≡ 1 → Clear (W .values x) (p + 1) → W .Goes (number 8 [] ∷ []) at (p + 1) x y r
+      → W .Goes (sna p ∷ ssi p ∷ extension p ∷ []) at (p + 1) x y r
+  form-sna at y r e z f = ⊎-elim goes (λ h. W .stop (sna p ∷ []) (ssi p ∷ extension p ∷ []) at (p + 1) x y r h under) (W .told r)
     where
-      go : (s : Step) → Reads (sna p ∷ []) bits at (p + 1) vs vs′ s → Reads (sna p ∷ ssi p ∷ extension p ∷ []) bits at (p + 1) vs vs′ s
-      go (Refused n x) f = reads-stop (sna p ∷ []) (ssi p ∷ extension p ∷ []) bits at (p + 1) vs vs′ n x f
-      go (Next at₁) f =
-          let same : getD vs′ p 0 ≡ 1 = value-before f p (omega arith) ∙ e in
-          reads-on (sna p ∷ []) (ssi p ∷ extension p ∷ []) bits at (p + 1) vs vs′ at₁ vs′ (Next at₁) f
-          (reads-off vs′ (p + 1 + 1) (ssi p ∷ extension p ∷ [])
-          (more (form-below vs′ p (p + 1 + 1) (omega arith) 2 (omega arith)) (more (form-not vs′ p (p + 1 + 1 + 1) (omega arith) 3 (λ d. omega arith)) none))
-          (clear-after f z) (omega (arith, f .size)) bits at₁)
+      under : W .Goes (sna p ∷ []) at (p + 1) x y r
+      under = W .under 8 0 256 Reserved 0 [] (is p 1 ∷ []) [] at (p + 1) x y r (form-is (W .values x) p (p + 1) (omega arith) 1 e) f
+
+      goes : (at₁ : ℕ) × (r ≡ W .next at₁) → W .Goes (sna p ∷ ssi p ∷ extension p ∷ []) at (p + 1) x y r
+      goes t =
+          let at₁ = t .0 in
+          let f₁ : W .Goes (sna p ∷ []) at (p + 1) x y (W .next at₁) = subst (W .Goes (sna p ∷ []) at (p + 1) x y) (t .1) under in
+          let same : getD (W .values y) p 0 ≡ 1 = value-before W (sna p ∷ []) at at₁ (p + 1) x y r (t .1) under p (omega arith) ∙ e in
+          subst (W .Goes (sna p ∷ ssi p ∷ extension p ∷ []) at (p + 1) x y) (sym (t .1))
+          (W .join (sna p ∷ []) (ssi p ∷ extension p ∷ []) at at₁ (p + 1) x y y (W .next at₁) f₁
+          (passes W at₁ (p + 1 + 1) y (ssi p ∷ extension p ∷ [])
+          (more (form-below (W .values y) p (p + 1 + 1) (omega arith) 2 (omega arith)) (more (form-not (W .values y) p (p + 1 + 1 + 1) (omega arith) 3 (λ d. omega arith)) none))
+          (clear-after W (sna p ∷ []) at at₁ (p + 1) x y r (t .1) under z) (omega (arith, W .size (sna p ∷ []) at (p + 1) x y (W .next at₁) f₁))))
 
   -- no form, nothing
-  pub form-none : (at : ℕ) → getD vs p 0 ≡ 0 → Clear vs (p + 1) → Reads (sna p ∷ ssi p ∷ extension p ∷ []) bits at (p + 1) vs vs (Next at)
+  pub form-none : (at : ℕ) → getD (W .values x) p 0 ≡ 0 → Clear (W .values x) (p + 1) → W .Goes (sna p ∷ ssi p ∷ extension p ∷ []) at (p + 1) x x (W .next at)
   form-none at e z =
-      reads-off vs (p + 1) (sna p ∷ ssi p ∷ extension p ∷ [])
-      (more (form-not vs p (p + 1) (omega arith) 1 (λ d. omega arith))
-      (more (form-below vs p (p + 1 + 1) (omega arith) 2 (omega arith)) (more (form-not vs p (p + 1 + 1 + 1) (omega arith) 3 (λ d. omega arith)) none)))
-      z (omega arith) bits at
+      passes W at (p + 1) x (sna p ∷ ssi p ∷ extension p ∷ [])
+      (more (form-not (W .values x) p (p + 1) (omega arith) 1 (λ d. omega arith))
+      (more (form-below (W .values x) p (p + 1 + 1) (omega arith) 2 (omega arith)) (more (form-not (W .values x) p (p + 1 + 1 + 1) (omega arith) 3 (λ d. omega arith)) none)))
+      z (omega arith)
 
   -- a form from 2 on has an SSI, after a place for an SNA
-  module _ (at : ℕ) (vs₁ : List ℕ) (s₁ : Step) (e : 2 ≤ getD vs p 0) (z : Clear vs (p + 1)) (f : Reads (number 24 [] ∷ []) bits at (p + 2) vs vs₁ s₁) where
-    no-sna : Reads (sna p ∷ []) bits at (p + 1) vs vs (Next at)
-    no-sna = reads-off vs (p + 1) (sna p ∷ []) (more (form-not vs p (p + 1) (omega arith) 1 (λ d. omega arith)) none) z (omega arith) bits at
-
-    next-place : p + 2 ≡ p + 1 + 1
-    next-place = omega arith
-
-    then-ssi : Reads (sna p ∷ ssi p ∷ []) bits at (p + 1) vs vs₁ s₁
+  module _ (at : ℕ) (y : W .State) (r₁ : W .Result) (e : 2 ≤ getD (W .values x) p 0) (z : Clear (W .values x) (p + 1)) (f : W .Goes (number 24 [] ∷ []) at (p + 2) x y r₁) where
+    then-ssi : W .Goes (sna p ∷ ssi p ∷ []) at (p + 1) x y r₁
     then-ssi =
-        reads-on (sna p ∷ []) (ssi p ∷ []) bits at (p + 1) vs vs at vs₁ s₁ no-sna
-        (subst (λ (n : ℕ). Reads (ssi p ∷ []) bits at n vs vs₁ s₁) next-place
-        (reads-under 24 0 16777216 Reserved 0 [] (atLeast p 2 ∷ []) [] bits at (p + 2) vs vs₁ s₁ (form-from vs p (p + 2) (omega arith) 2 e) f))
+        let place : p + 2 ≡ p + 1 + 1 = omega arith in
+        W .join (sna p ∷ []) (ssi p ∷ []) at at (p + 1) x x y r₁
+        (passes W at (p + 1) x (sna p ∷ []) (more (form-not (W .values x) p (p + 1) (omega arith) 1 (λ d. omega arith)) none) z (omega arith))
+        (subst (λ (n : ℕ). W .Goes (ssi p ∷ []) at n x y r₁) place
+        (W .under 24 0 16777216 Reserved 0 [] (atLeast p 2 ∷ []) [] at (p + 2) x y r₁ (form-from (W .values x) p (p + 2) (omega arith) 2 e) f))
 
-    pub form-stop : (n : Refusal) (x : ℕ) → s₁ ≡ Refused n x → Reads (sna p ∷ ssi p ∷ extension p ∷ []) bits at (p + 1) vs vs₁ (Refused n x)
-    form-stop n x d =
-        reads-stop (sna p ∷ ssi p ∷ []) (extension p ∷ []) bits at (p + 1) vs vs₁ n x
-        (subst (λ (s : Step). Reads (sna p ∷ ssi p ∷ []) bits at (p + 1) vs vs₁ s) d then-ssi)
+    pub form-stop : (r : W .Result) → r₁ ≡ r → W .Stops r → W .Goes (sna p ∷ ssi p ∷ extension p ∷ []) at (p + 1) x y r
+    form-stop r d h =
+        W .stop (sna p ∷ ssi p ∷ []) (extension p ∷ []) at (p + 1) x y r h (subst (W .Goes (sna p ∷ ssi p ∷ []) at (p + 1) x y) d then-ssi)
 
-    pub form-ssi : (at₁ : ℕ) (vs₂ : List ℕ) (s₂ : Step) → s₁ ≡ Next at₁ → Reads (extension p ∷ []) bits at₁ (p + 3) vs₁ vs₂ s₂
-        → Reads (sna p ∷ ssi p ∷ extension p ∷ []) bits at (p + 1) vs vs₂ s₂
-    form-ssi at₁ vs₂ s₂ d g =
+    pub form-ssi : (at₁ : ℕ) (w : W .State) (r₂ : W .Result) → r₁ ≡ W .next at₁ → W .Goes (extension p ∷ []) at₁ (p + 3) y w r₂
+        → W .Goes (sna p ∷ ssi p ∷ extension p ∷ []) at (p + 1) x w r₂
+    form-ssi at₁ w r₂ d g =
         let place : p + 3 ≡ p + 1 + 2 = omega arith in
-        reads-on (sna p ∷ ssi p ∷ []) (extension p ∷ []) bits at (p + 1) vs vs₁ at₁ vs₂ s₂
-        (subst (λ (s : Step). Reads (sna p ∷ ssi p ∷ []) bits at (p + 1) vs vs₁ s) d then-ssi)
-        (subst (λ (n : ℕ). Reads (extension p ∷ []) bits at₁ n vs₁ vs₂ s₂) place g)
+        goes-then W (sna p ∷ ssi p ∷ []) (extension p ∷ []) at at₁ (p + 1) x y w r₁ r₂ d then-ssi (subst (λ (n : ℕ). W .Goes (extension p ∷ []) at₁ n y w r₂) place g)

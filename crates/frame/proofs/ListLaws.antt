@@ -10,19 +10,15 @@ use native.Mathlib.Omega.{arith}
 use borrow.Author.Tests.{lt-leb, le-leb}
 use lib.ListN.{length, take, getD}
 use lib.Seq.{getD-take}
-use Rattle.refusal.specs.declared.Refusal.{Refusal}
 use Rattle.refusal.specs.declared.Refusal.the-variants.{Reserved}
 use Rattle.frame.specs.Row.{Row, Condition, atLeast, present}
 use Rattle.frame.specs.Shape.{choice, codesOf, least, times, item, stride, repeated, rowsOf}
-use Rattle.frame.specs.Walk.{Clear, Reads}
+use Rattle.frame.specs.Walk.{Clear}
 use Rattle.frame.specs.declared.Items.{Items}
 use Rattle.frame.specs.declared.Items.the-variants.{Numbers, Letters}
 use Rattle.frame.specs.declared.Shape.the-variants as shape
-use Rattle.frame.specs.declared.Step.{Step}
-use Rattle.frame.specs.declared.Step.the-variants.{Next, Refused}
-use Rattle.frame.proofs.ReadLaws.{reads-on, reads-then, reads-end, reads-none, reads-under}
-use Rattle.frame.proofs.Absent.{Shut, shut-item, reads-off, length-item, length-repeated}
-use Rattle.frame.proofs.IdentityLaws.{clear-after}
+use Rattle.frame.proofs.Walks.{Walk, goes-then, clear-after}
+use Rattle.frame.proofs.Absent.{shut-item, passes, length-item, length-repeated}
 
 -- n items and k more
 repeated-split : (items : Items) (t p i n k : ℕ) → repeated items t p i (n + k) ≡ repeated items t p i n ++ repeated items t (p + stride items * n) (i + n) k
@@ -49,88 +45,91 @@ repeated-more items t p n =
     ∙ ap (λ (j : ℕ). item items (atLeast t (least items j) ∷ []) (p + stride items * n)) (zero-add n))
 
 -- an item is there from a count on
-module _ (items : Items) (bits : List Bool) (t p v : ℕ) (vs : List ℕ) (before : t < p) where
-  pub item-on : (at : ℕ) (vs′ : List ℕ) (s : Step) → v ≤ getD vs t 0 → Reads (item items [] p) bits at p vs vs′ s → Reads (item items (atLeast t v ∷ []) p) bits at p vs vs′ s
+module _ (W : Walk) (items : Items) (t p v : ℕ) (x : W .State) (before : t < p) where
+  pub item-on : (at : ℕ) (y : W .State) (r : W .Result) → v ≤ getD (W .values x) t 0 → W .Goes (item items [] p) at p x y r → W .Goes (item items (atLeast t v ∷ []) p) at p x y r
   unfolding present
-  item-on at vs′ s h = go items
+  item-on at y r h = go items
     where
-      on : present (take p vs) (atLeast t v ∷ []) ≡ true
-      on = rw (getD-take p vs t 0 before, le-leb v (getD vs t 0) h)
+      on : present (take p (W .values x)) (atLeast t v ∷ []) ≡ true
+      on = rw (getD-take p (W .values x) t 0 before, le-leb v (getD (W .values x) t 0) h)
 
-      go : (items : Items) → Reads (item items [] p) bits at p vs vs′ s → Reads (item items (atLeast t v ∷ []) p) bits at p vs vs′ s
-      go Numbers f = reads-under 2 1 3 Reserved 0 [] (atLeast t v ∷ []) _ bits at p vs vs′ s on f
-      go Letters f = reads-under 8 0 256 Reserved 0 [] (atLeast t v ∷ []) _ bits at p vs vs′ s on f
+      go : (items : Items) → W .Goes (item items [] p) at p x y r → W .Goes (item items (atLeast t v ∷ []) p) at p x y r
+      go Numbers f = W .under 2 1 3 Reserved 0 [] (atLeast t v ∷ []) _ at p x y r on f
+      go Letters f = W .under 8 0 256 Reserved 0 [] (atLeast t v ∷ []) _ at p x y r on f
 
-  pub item-off : (at : ℕ) → getD vs t 0 < v → Clear vs p → p + stride items ≤ length vs → Reads (item items (atLeast t v ∷ []) p) bits at p vs vs (Next at)
+  pub item-off : (at : ℕ) → getD (W .values x) t 0 < v → Clear (W .values x) p → p + stride items ≤ length (W .values x)
+      → W .Goes (item items (atLeast t v ∷ []) p) at p x x (W .next at)
   unfolding present
   item-off at h z room =
-      reads-off vs p (item items (atLeast t v ∷ []) p) (shut-item vs p z items (atLeast t v ∷ []) off) z (omega (arith, length-item items (atLeast t v ∷ []) p)) bits at
+      passes W at p x (item items (atLeast t v ∷ []) p) (shut-item (W .values x) p z items (atLeast t v ∷ []) off) z (omega (arith, length-item items (atLeast t v ∷ []) p))
     where
-      off : present (take p vs) (atLeast t v ∷ []) ≡ false
-      off = rw (getD-take p vs t 0 before, lt-leb v (getD vs t 0) h)
+      off : present (take p (W .values x)) (atLeast t v ∷ []) ≡ false
+      off = rw (getD-take p (W .values x) t 0 before, lt-leb v (getD (W .values x) t 0) h)
 
 pub times-most : (items : Items) → times items ≤ 16
 times-most Numbers = omega arith
 times-most Letters = omega arith
 
--- ---- the items' loop: i of them are read, and the next begins at the place p
-pub record Reading (items : Items) (bits : List Bool) (from t : ℕ) (vs₀ vs : List ℕ) (at p i : ℕ) : Type 0 where
+-- ---- the items' loop: i of them are passed, and the next begins at the place p
+pub record Listing (W : Walk) (items : Items) (from t : ℕ) (x y : W .State) (at p i : ℕ) : Type 0 where
   pub place : p ≡ t + 1 + stride items * i
-  pub reads : Reads (repeated items t (t + 1) 0 i) bits from (t + 1) vs₀ vs (Next at)
-  pub clear : Clear vs p
+  pub goes : W .Goes (repeated items t (t + 1) 0 i) from (t + 1) x y (W .next at)
+  pub clear : Clear (W .values y) p
+  pub size : length (W .values y) ≡ length (W .values x)
 
-module _ (items : Items) (bits : List Bool) (from t : ℕ) (vs₀ : List ℕ) where
-  pub reading-none : Clear vs₀ (t + 1) → Reading items bits from t vs₀ vs₀ from (t + 1) 0
+module _ (W : Walk) (items : Items) (from t : ℕ) (x : W .State) where
+  pub listing-none : Clear (W .values x) (t + 1) → Listing W items from t x x from (t + 1) 0
   unfolding repeated
-  reading-none z = record { place = omega (arith, mul-zero (stride items)); reads = reads-none bits from (t + 1) vs₀; clear = z }
+  listing-none z = record { place = omega (arith, mul-zero (stride items)); goes = W .none from (t + 1) x; clear = z; size = refl }
 
   -- the places of an item that is still to come
-  pub reading-room : (vs : List ℕ) (at p i m : ℕ) → Reading items bits from t vs₀ vs at p i → i < m → t + 1 + stride items * m ≤ length vs₀ → p + stride items ≤ length vs
-  reading-room vs at p i m now h room =
+  pub listing-room : (y : W .State) (at p i m : ℕ) → Listing W items from t x y at p i → i < m → t + 1 + stride items * m ≤ length (W .values x) → p + stride items ≤ length (W .values y)
+  listing-room y at p i m now h room =
       let step : stride items * i + stride items ≡ stride items * suc i = sym (mul-suc (stride items) i) in
-      omega (arith, now .place, now .reads .size, mul-le-mul-left (stride items) h)
+      omega (arith, now .place, now .size, mul-le-mul-left (stride items) h)
 
-  module _ (vs vs′ : List ℕ) (at p i : ℕ) (s : Step) (now : Reading items bits from t vs₀ vs at p i)
-      (f : Reads (item items (atLeast t (least items i) ∷ []) p) bits at p vs vs′ s) where
+  module _ (y z : W .State) (at p i : ℕ) (r : W .Result) (now : Listing W items from t x y at p i)
+      (f : W .Goes (item items (atLeast t (least items i) ∷ []) p) at p y z r) where
     begins : p ≡ t + 1 + length (repeated items t (t + 1) 0 i)
     begins = now .place ∙ ap (λ (n : ℕ). t + 1 + n) (sym (length-repeated items t (t + 1) 0 i))
 
-    so-far : Reads (repeated items t (t + 1) 0 (i + 1)) bits from (t + 1) vs₀ vs′ s
+    so-far : W .Goes (repeated items t (t + 1) 0 (i + 1)) from (t + 1) x z r
     so-far =
         let one = item items (atLeast t (least items i) ∷ []) p in
-        subst (λ (l : List Row). Reads l bits from (t + 1) vs₀ vs′ s)
+        subst (λ (l : List Row). W .Goes l from (t + 1) x z r)
         (ap (λ (q : ℕ). repeated items t (t + 1) 0 i ++ item items (atLeast t (least items i) ∷ []) q) (now .place) ∙ sym (repeated-more items t (t + 1) i))
-        (reads-on (repeated items t (t + 1) 0 i) one bits from (t + 1) vs₀ vs at vs′ s (now .reads) (subst (λ (n : ℕ). Reads one bits at n vs vs′ s) begins f))
+        (W .join (repeated items t (t + 1) 0 i) one from at (t + 1) x y z r (now .goes) (subst (λ (n : ℕ). W .Goes one at n y z r) begins f))
 
-    pub reading-more : (at′ w : ℕ) → s ≡ Next at′ → w ≡ stride items → Reading items bits from t vs₀ vs′ at′ (p + w) (i + 1)
-    reading-more at′ w e l =
+    pub listing-more : (at′ w : ℕ) → r ≡ W .next at′ → w ≡ stride items → Listing W items from t x z at′ (p + w) (i + 1)
+    listing-more at′ w e l =
+        let one = item items (atLeast t (least items i) ∷ []) p in
         record {
           place = omega (arith, now .place, add-one i, mul-suc (stride items) i);
-          reads = subst (λ (s : Step). Reads (repeated items t (t + 1) 0 (i + 1)) bits from (t + 1) vs₀ vs′ s) e so-far;
-          clear = λ q h. clear-after f (now .clear) q (omega (arith, length-item items (atLeast t (least items i) ∷ []) p));
+          goes = subst (W .Goes (repeated items t (t + 1) 0 (i + 1)) from (t + 1) x z) e so-far;
+          clear = λ q h. clear-after W one at at′ p y z r e f (now .clear) q (omega (arith, length-item items (atLeast t (least items i) ∷ []) p));
+          size = W .size one at p y z r f ∙ now .size;
         }
 
-    -- what is refused in an item is refused in the list
-    pub reading-stop : (n : Refusal) (x m : ℕ) → s ≡ Refused n x → i < m → Reads (repeated items t (t + 1) 0 m) bits from (t + 1) vs₀ vs′ (Refused n x)
-    reading-stop n x m e h =
+    -- what stops an item stops the list
+    pub listing-stop : (r′ : W .Result) (m : ℕ) → r ≡ r′ → W .Stops r′ → i < m → W .Goes (repeated items t (t + 1) 0 m) from (t + 1) x z r′
+    listing-stop r′ m e s h =
         let left = m - (i + 1) in
         let all : i + 1 + left ≡ m = omega arith in
         let first = repeated items t (t + 1) 0 (i + 1) in
         let rest = repeated items t (t + 1 + stride items * (i + 1)) (0 + (i + 1)) left in
-        subst (λ (l : List Row). Reads l bits from (t + 1) vs₀ vs′ (Refused n x)) (sym (repeated-split items t (t + 1) 0 (i + 1) left) ∙ ap (repeated items t (t + 1) 0) all)
-        (reads-end first rest bits from (t + 1) vs₀ vs′ n x s e so-far)
+        subst (λ (l : List Row). W .Goes l from (t + 1) x z r′) (sym (repeated-split items t (t + 1) 0 (i + 1) left) ∙ ap (repeated items t (t + 1) 0) all)
+        (W .stop first rest from (t + 1) x z r′ s (subst (W .Goes first from (t + 1) x z) e so-far))
 
 -- ---- the count, then the items
-module _ (items : Items) (bits : List Bool) (at p : ℕ) (vs vs₁ : List ℕ) (r : Row) (e : r ≡ choice 4 (codesOf items) []) (s₁ : Step) (f : Reads (r ∷ []) bits at p vs vs₁ s₁) where
-  count : Reads (choice 4 (codesOf items) [] ∷ []) bits at p vs vs₁ s₁
-  count = subst (λ (x : Row). Reads (x ∷ []) bits at p vs vs₁ s₁) e f
+module _ (W : Walk) (items : Items) (at p : ℕ) (x y : W .State) (c : Row) (e : c ≡ choice 4 (codesOf items) []) (r₁ : W .Result) (f : W .Goes (c ∷ []) at p x y r₁) where
+  count : W .Goes (choice 4 (codesOf items) [] ∷ []) at p x y r₁
+  count = subst (λ (q : Row). W .Goes (q ∷ []) at p x y r₁) e f
 
-  pub list-on : (at₁ : ℕ) (vs₂ : List ℕ) (s : Step) → s₁ ≡ Next at₁ → Reads (repeated items p (p + 1) 0 (times items)) bits at₁ (p + 1) vs₁ vs₂ s
-      → Reads (rowsOf (shape.List items) [] p) bits at p vs vs₂ s
+  pub list-on : (at₁ : ℕ) (z : W .State) (r : W .Result) → r₁ ≡ W .next at₁ → W .Goes (repeated items p (p + 1) 0 (times items)) at₁ (p + 1) y z r
+      → W .Goes (rowsOf (shape.List items) [] p) at p x z r
   unfolding rowsOf
-  list-on at₁ vs₂ s d g =
-      reads-then (choice 4 (codesOf items) [] ∷ []) (repeated items p (p + 1) 0 (times items)) bits at p vs vs₁ at₁ vs₂ s₁ s d count g
+  list-on at₁ z r d g = goes-then W (choice 4 (codesOf items) [] ∷ []) (repeated items p (p + 1) 0 (times items)) at at₁ p x y z r₁ r d count g
 
-  pub list-stop : (n : Refusal) (x : ℕ) → s₁ ≡ Refused n x → Reads (rowsOf (shape.List items) [] p) bits at p vs vs₁ (Refused n x)
+  pub list-stop : (r : W .Result) → r₁ ≡ r → W .Stops r → W .Goes (rowsOf (shape.List items) [] p) at p x y r
   unfolding rowsOf
-  list-stop n x d = reads-end (choice 4 (codesOf items) [] ∷ []) (repeated items p (p + 1) 0 (times items)) bits at p vs vs₁ n x s₁ d count
+  list-stop r d s = W .stop (choice 4 (codesOf items) [] ∷ []) (repeated items p (p + 1) 0 (times items)) at p x y r s (subst (W .Goes (choice 4 (codesOf items) [] ∷ []) at p x y) d count)

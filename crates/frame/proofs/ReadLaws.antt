@@ -4,6 +4,7 @@ use Prim.Native.Nat.{ℕ, zero, suc, _+_, _-_, _*_, _≤_, _<_}
 use mathlib.Core.Path.{_≡_, refl, ap, sym, _∙_, subst}
 use mathlib.Core.Bool.{Bool, true, false, cond}
 use mathlib.Core.List.{List, [], _∷_, _++_, append-assoc}
+use mathlib.Core.Logic.{_⊎_, inl, inr}
 use native.Mathlib.Nat.{add-zero, sub-zero}
 use native.Mathlib.Numerals.{add-one}
 use native.Mathlib.Decide.{decLt}
@@ -26,6 +27,7 @@ use Rattle.frame.specs.Row.{Row, Condition, nothing, holds, all, present
 use Rattle.frame.specs.Read.{Answer, refused, Turn, took, stop, turn, next, readRows}
 use Rattle.frame.specs.Shape.{row}
 use Rattle.frame.proofs.Tests.{all-append, and-true}
+use Rattle.frame.proofs.Walks.{Walk}
 use Rattle.frame.specs.Walk.{whole, rowFor, Narrow, onward, Reads}
 
 -- ---- one row
@@ -86,13 +88,6 @@ module _ (a b : List Row) (bits : List Bool) (at p : ℕ) (vs vs₁ : List ℕ) 
         size = f .size;
       }
 
-  -- the same, for a step that a match has told
-  pub reads-then : (at₁ : ℕ) (vs₂ : List ℕ) (s₁ s : Step) → s₁ ≡ Next at₁ → Reads a bits at p vs vs₁ s₁ → Reads b bits at₁ (p + length a) vs₁ vs₂ s → Reads (a ++ b) bits at p vs vs₂ s
-  reads-then at₁ vs₂ s₁ s e f g = reads-on at₁ vs₂ s (subst (λ (t : Step). Reads a bits at p vs vs₁ t) e f) g
-
-  pub reads-end : (n : Refusal) (x : ℕ) (s₁ : Step) → s₁ ≡ Refused n x → Reads a bits at p vs vs₁ s₁ → Reads (a ++ b) bits at p vs vs₁ (Refused n x)
-  reads-end n x s₁ e f = reads-stop n x (subst (λ (t : Step). Reads a bits at p vs vs₁ t) e f)
-
 -- over no rows nothing happens
 pub reads-none : (bits : List Bool) (at p : ℕ) (vs : List ℕ) → Reads [] bits at p vs vs (Next at)
 reads-none bits at p vs = record { same = λ rest. rw (add-zero p); before = refl; stays = refl; size = refl }
@@ -152,11 +147,6 @@ module _ (f : Field) (bytes : List ℕ) (count at p : ℕ) (vs : List ℕ) (lent
     pub field-short : Cut ≡ fieldAt bytes count at (f .width) → Reads (rowFor f [] ∷ []) (whole bytes count) at p vs vs (Refused EndsInside at)
     field-short e = stopped EndsInside (met Cut e)
 
--- what does not look at a row's conditions is the same with others
-same-there : {A : Type 0} (t : Bool) (f : Row → A) (a b : Row) → f a ≡ f b → f (cond t a nothing) ≡ f (cond t b nothing)
-same-there true f a b e = e
-same-there false f a b e = refl
-
 -- a row is read under more conditions, which hold, as it is read without
 module _ (w first codes : ℕ) (n : Refusal) (back : ℕ) (own hang : List Condition) (more : List Row) (bits : List Bool) (at p : ℕ) (vs vs′ : List ℕ) (s : Step) where
   pub reads-under : present (take p vs) hang ≡ true → Reads (row w first codes n back own ∷ more) bits at p vs vs′ s → Reads (row w first codes n back (own ++ hang) ∷ more) bits at p vs vs′ s
@@ -164,11 +154,41 @@ module _ (w first codes : ℕ) (n : Refusal) (back : ℕ) (own hang : List Condi
   reads-under e f =
       let done = take p vs in
       record {
-        same = λ rest. rw (all-append (holds done) own hang, e, and-true (all (holds done) own))
-            (same-there (all (holds done) own)
-            (λ (h : Row). next (turn h (drop at bits)) at (λ v. readRows (more ++ rest) (done ++ (v ∷ [])) (at + h .width) (drop (h .width) (drop at bits))))
-            (row w first codes n back (own ++ hang)) (row w first codes n back own) refl ∙ f .same rest);
+        same = λ rest. rw (all-append (holds done) own hang, e, and-true (all (holds done) own)) (f .same rest);
         before = f .before;
         stays = f .stays;
         size = f .size;
       }
+
+-- ---- reading is a walk
+abbrev pub Stop : Step → Type 0
+Stop (Next at) = ⊥
+Stop (Refused n x) = Unit {0}
+
+pub told : (s : Step) → ((at : ℕ) × (s ≡ Next at)) ⊎ Stop s
+told (Next at) = inl (at, refl)
+told (Refused n x) = inr tt
+
+pub reads-after : (a b : List Row) (bits : List Bool) (at p : ℕ) (vs vs₁ : List ℕ) (s : Step) → Stop s → Reads a bits at p vs vs₁ s → Reads (a ++ b) bits at p vs vs₁ s
+reads-after a b bits at p vs vs₁ (Refused n x) h f = reads-stop a b bits at p vs vs₁ n x f
+reads-after a b bits at p vs vs₁ (Next at₁) h f = absurd h
+
+abbrev pub reading : List Bool → Walk
+reading bits =
+    record {
+      State = List ℕ;
+      Result = Step;
+      next = Next;
+      Stops = Stop;
+      told = told;
+      values = λ vs. vs;
+      Goes = λ rows at p vs vs′ s. Reads rows bits at p vs vs′ s;
+      none = reads-none bits;
+      off = λ r at p vs. row-off r bits at p vs;
+      join = λ a b at at₁ p vs vs₁ vs₂ s. reads-on a b bits at p vs vs₁ at₁ vs₂ s;
+      stop = λ a b at p vs vs₁ s. reads-after a b bits at p vs vs₁ s;
+      under = λ w first codes n back own hang more at p vs vs′ s. reads-under w first codes n back own hang more bits at p vs vs′ s;
+      before = λ rows at at₁ p vs vs′ f. f .before;
+      stays = λ rows at at₁ p vs vs′ f. f .stays;
+      size = λ rows at p vs vs′ s f. f .size;
+    }

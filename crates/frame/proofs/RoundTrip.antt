@@ -13,7 +13,7 @@ use lib.Seq.{take-at, drop-at}
 use Rattle.bits.specs.Bits.{digits, value}
 use Rattle.bits.proofs.Laws.{length-digits, value-digits, digits-drop}
 use Rattle.refusal.specs.declared.Refusal.the-variants.{EndsInside}
-use Rattle.frame.specs.Row.{Row, nothing, fits, all, present, there}
+use Rattle.frame.specs.Row.{Row, nothing, bare, fits, all, present, there}
 use Rattle.frame.specs.Read.{Answer, frame, refused, Turn, took, stop, turn, next, readRows}
 use Rattle.frame.specs.Write.{Laid, held, lay, good, vals, emit}
 use Rattle.frame.proofs.Tests.{left, right, both}
@@ -33,7 +33,7 @@ good→ r v g =
 →good : (r : Row) (v : ℕ) → Good r v → T (good (record { row = r; val = v }))
 →good r v g = both (leb (r .first) v) (ltb v (r .first + r .codes)) (le→leb _ _ (g .low)) (lt→ltb _ _ (g .high))
 
-fits-there : (b : Bool) (r : Row) → T (fits r) → T (fits (cond b r nothing))
+fits-there : (b : Bool) (r : Row) → T (fits r) → T (fits (cond b (bare r) nothing))
 fits-there true r f = f
 fits-there false r f = tt
 

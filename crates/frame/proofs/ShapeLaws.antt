@@ -26,7 +26,8 @@ use Rattle.frame.specs.declared.When.the-variants.{Is}
 use Rattle.frame.specs.Row.{Row, Condition, is, nothingSince, all, present}
 use Rattle.frame.specs.Shape.{row, number, choice, refuse, No, codesOf, times, stride, identity, rowsOf, span, conditionsOf}
 use Rattle.frame.specs.Walk.{Clear, Reads, barredAt, sound, looks}
-use Rattle.frame.proofs.ReadLaws.{row-off, row-stop, reads-under}
+use Rattle.frame.proofs.ReadLaws.{row-off, row-stop}
+use Rattle.frame.proofs.Walks.{Walk}
 use Rattle.frame.proofs.Tests.{left, right, and-true}
 
 -- one shifted to a width of at most 24 is the power
@@ -90,29 +91,29 @@ unfolding span
 list-room s Numbers e = ap span e
 list-room s Letters e = ap span e
 
-module _ (s : Shape) (bits : List Bool) (at p : ℕ) (vs vs′ : List ℕ) (r : Step) where
-  -- a shape of one row
-  pub shape-row : (x : Row) → rowsOf s [] p ≡ x ∷ [] → Reads (x ∷ []) bits at p vs vs′ r → Reads (rowsOf s [] p) bits at p vs vs′ r
-  shape-row x e f = subst (λ (l : List Row). Reads l bits at p vs vs′ r) (sym e) f
+-- a walk over a shape's rows, where the shape is told
+module _ (W : Walk) (s : Shape) (at p : ℕ) (x y : W .State) (r : W .Result) where
+  shape-row : (c : Row) → rowsOf s [] p ≡ c ∷ [] → W .Goes (c ∷ []) at p x y r → W .Goes (rowsOf s [] p) at p x y r
+  shape-row c e f = subst (λ (l : List Row). W .Goes l at p x y r) (sym e) f
 
-  pub shape-number : (w w′ : ℕ) (x : Row) → s ≡ Number w → w′ ≡ w → x ≡ number w′ [] → Reads (x ∷ []) bits at p vs vs′ r → Reads (rowsOf s [] p) bits at p vs vs′ r
+  pub shape-number : (w w′ : ℕ) (c : Row) → s ≡ Number w → w′ ≡ w → c ≡ number w′ [] → W .Goes (c ∷ []) at p x y r → W .Goes (rowsOf s [] p) at p x y r
   unfolding rowsOf
-  shape-number w w′ x e g d f = shape-row x (ap (λ (t : Shape). rowsOf t [] p) e ∙ ap (λ (v : ℕ). number v [] ∷ []) (sym g) ∙ ap (λ (y : Row). y ∷ []) (sym d)) f
+  shape-number w w′ c e g d f = shape-row c (ap (λ (t : Shape). rowsOf t [] p) e ∙ ap (λ (v : ℕ). number v [] ∷ []) (sym g) ∙ ap (λ (y : Row). y ∷ []) (sym d)) f
 
-  pub shape-choice : (w w′ n : ℕ) (x : Row) → s ≡ Choice w n → w′ ≡ w → x ≡ choice w′ n [] → Reads (x ∷ []) bits at p vs vs′ r → Reads (rowsOf s [] p) bits at p vs vs′ r
+  pub shape-choice : (w w′ n : ℕ) (c : Row) → s ≡ Choice w n → w′ ≡ w → c ≡ choice w′ n [] → W .Goes (c ∷ []) at p x y r → W .Goes (rowsOf s [] p) at p x y r
   unfolding rowsOf
-  shape-choice w w′ n x e g d f = shape-row x (ap (λ (t : Shape). rowsOf t [] p) e ∙ ap (λ (v : ℕ). choice v n [] ∷ []) (sym g) ∙ ap (λ (y : Row). y ∷ []) (sym d)) f
+  shape-choice w w′ n c e g d f = shape-row c (ap (λ (t : Shape). rowsOf t [] p) e ∙ ap (λ (v : ℕ). choice v n [] ∷ []) (sym g) ∙ ap (λ (y : Row). y ∷ []) (sym d)) f
 
-  pub shape-ending : s ≡ Ending → Reads (row 1 0 1 TypeThree 0 [] ∷ []) bits at p vs vs′ r → Reads (rowsOf s [] p) bits at p vs vs′ r
+  pub shape-ending : s ≡ Ending → W .Goes (row 1 0 1 TypeThree 0 [] ∷ []) at p x y r → W .Goes (rowsOf s [] p) at p x y r
   unfolding rowsOf
   shape-ending e f = shape-row (row 1 0 1 TypeThree 0 []) (ap (λ (t : Shape). rowsOf t [] p) e) f
 
-  pub shape-identity : s ≡ Identity → Reads (identity [] p) bits at p vs vs′ r → Reads (rowsOf s [] p) bits at p vs vs′ r
+  pub shape-identity : s ≡ Identity → W .Goes (identity [] p) at p x y r → W .Goes (rowsOf s [] p) at p x y r
   unfolding rowsOf
-  shape-identity e f = subst (λ (t : Shape). Reads (rowsOf t [] p) bits at p vs vs′ r) (sym e) f
+  shape-identity e f = subst (λ (t : Shape). W .Goes (rowsOf t [] p) at p x y r) (sym e) f
 
-  pub shape-list : (items : Items) → s ≡ shape.List items → Reads (rowsOf (shape.List items) [] p) bits at p vs vs′ r → Reads (rowsOf s [] p) bits at p vs vs′ r
-  shape-list items e f = subst (λ (t : Shape). Reads (rowsOf t [] p) bits at p vs vs′ r) (sym e) f
+  pub shape-list : (items : Items) → s ≡ shape.List items → W .Goes (rowsOf (shape.List items) [] p) at p x y r → W .Goes (rowsOf s [] p) at p x y r
+  shape-list items e f = subst (λ (t : Shape). W .Goes (rowsOf t [] p) at p x y r) (sym e) f
 
 -- the two refusals
 module _ (s : Shape) (bits : List Bool) (at p : ℕ) (vs : List ℕ) (room : p + span s ≤ length vs) (z : Clear vs p) (t : T (sound s p)) where
@@ -135,17 +136,17 @@ module _ (s : Shape) (bits : List Bool) (at p : ℕ) (vs : List ℕ) (room : p +
       (and-true (all (λ v. eqb v 0) (drop (suc o) (take p vs))) ∙ ap (λ (n : ℕ). all (λ v. eqb v 0) (drop n (take p vs))) (sym (ap (λ (n : ℕ). n + 1) g ∙ add-one o)) ∙ sym c)))
 
 -- ---- under the element's condition
--- the first row of each shape hangs on it; so what is read without it, is read under it where it holds
-pub shape-under : (s : Shape) (hang : List Condition) (bits : List Bool) (at p : ℕ) (vs vs′ : List ℕ) (r : Step) → present (take p vs) hang ≡ true
-    → Reads (rowsOf s [] p) bits at p vs vs′ r → Reads (rowsOf s hang p) bits at p vs vs′ r
+-- the first row of each shape hangs on it; so what passes without it, passes under it where it holds
+pub shape-under : (W : Walk) (s : Shape) (hang : List Condition) (at p : ℕ) (x y : W .State) (r : W .Result) → present (take p (W .values x)) hang ≡ true
+    → W .Goes (rowsOf s [] p) at p x y r → W .Goes (rowsOf s hang p) at p x y r
 unfolding rowsOf
-shape-under (Number w) hang bits at p vs vs′ r on f = reads-under w 0 (2 ^ w) Reserved 0 [] hang [] bits at p vs vs′ r on f
-shape-under (Choice w n) hang bits at p vs vs′ r on f = reads-under w 1 n Reserved 0 [] hang [] bits at p vs vs′ r on f
-shape-under Identity hang bits at p vs vs′ r on f = reads-under 2 1 3 Reserved 0 [] hang _ bits at p vs vs′ r on f
-shape-under (shape.List items) hang bits at p vs vs′ r on f = reads-under 4 1 (codesOf items) Reserved 0 [] hang _ bits at p vs vs′ r on f
-shape-under Ending hang bits at p vs vs′ r on f = reads-under 1 0 1 TypeThree 0 [] hang [] bits at p vs vs′ r on f
-shape-under (Missing q) hang bits at p vs vs′ r on f = reads-under 0 0 0 NoGroup 1 (is q No ∷ []) hang [] bits at p vs vs′ r on f
-shape-under (Nothing o) hang bits at p vs vs′ r on f = reads-under 0 0 0 NothingFollows 1 (nothingSince o ∷ []) hang [] bits at p vs vs′ r on f
+shape-under W (Number w) hang at p x y r on f = W .under w 0 (2 ^ w) Reserved 0 [] hang [] at p x y r on f
+shape-under W (Choice w n) hang at p x y r on f = W .under w 1 n Reserved 0 [] hang [] at p x y r on f
+shape-under W Identity hang at p x y r on f = W .under 2 1 3 Reserved 0 [] hang _ at p x y r on f
+shape-under W (shape.List items) hang at p x y r on f = W .under 4 1 (codesOf items) Reserved 0 [] hang _ at p x y r on f
+shape-under W Ending hang at p x y r on f = W .under 1 0 1 TypeThree 0 [] hang [] at p x y r on f
+shape-under W (Missing q) hang at p x y r on f = W .under 0 0 0 NoGroup 1 (is q No ∷ []) hang [] at p x y r on f
+shape-under W (Nothing o) hang at p x y r on f = W .under 0 0 0 NothingFollows 1 (nothingSince o ∷ []) hang [] at p x y r on f
 
 pub looks-is : (w : When) (q v n : ℕ) → w ≡ Is q v → T (looks w n) → q < n
 unfolding looks

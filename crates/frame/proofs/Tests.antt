@@ -43,3 +43,12 @@ all-append p (x ∷ a) b = go (p x) (all-append p a b)
     go : (t : Bool) → all p (a ++ b) ≡ all p a && all p b → t && all p (a ++ b) ≡ t && all p a && all p b
     go true e = e
     go false e = refl
+
+-- a weaker test passes too
+pub all-weaker : {A : Type 0} (p q : A → Bool) → ((x : A) → p x ≡ true → q x ≡ true) → (l : List A) → all p l ≡ true → all q l ≡ true
+all-weaker p q w [] e = refl
+all-weaker p q w (x ∷ l) e = go (p x) (q x) (w x) e (all-weaker p q w l)
+  where
+    go : (a b : Bool) → (a ≡ true → b ≡ true) → a && all p l ≡ true → (all p l ≡ true → all q l ≡ true) → b && all q l ≡ true
+    go true b h e r = rw (h refl, r e)
+    go false b h e r = let z : _≡_ {A = ℕ} 0 1 = cc in absurd (omega arith)

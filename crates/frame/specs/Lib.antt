@@ -6,3 +6,4 @@ pub mod Table
 pub mod Frame
 pub mod Walk
 pub mod Lay
+pub mod Whole

@@ -43,5 +43,9 @@ present done hang = all (holds done) hang
 abbrev pub nothing : Row
 nothing = record { width = 0; first = 0; codes = 1; refusal = Reserved; back = 0; hang = [] }
 
+-- a row that is there hangs on nothing more
+abbrev pub bare : Row → Row
+bare r = record { width = r .width; first = r .first; codes = r .codes; refusal = r .refusal; back = r .back; hang = [] }
+
 abbrev pub there : List ℕ → Row → Row
-there done r = cond (present done (r .hang)) r nothing
+there done r = cond (present done (r .hang)) (bare r) nothing

@@ -128,7 +128,7 @@ cancelAck = table do
   callRelated ← yesNo always
   callIdentifier ← number 14 (callRelated is Yes)
   definedGroup ← identity (callRelated is No)
-  yesNo always
+  number 1 always
 
 abbrev pub tableOf : Kind → List Element
 tableOf Define = define

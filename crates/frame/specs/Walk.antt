@@ -4,9 +4,10 @@ use Prim.Native.Nat.{ℕ, _+_, _-_, _^_, _≤_, _<_}
 use mathlib.Core.Path.{_≡_}
 use mathlib.Core.Bool.{Bool, true, false, _&&_}
 use mathlib.Core.List.{List, [], _∷_, _++_}
-use lib.Dec.{leb, ltb}
+use lib.Dec.{eqb, leb, ltb}
 use lib.ListN.{length, take, drop, getD, replicate}
 use Rattle.refusal.specs.declared.Refusal.{Refusal}
+use Rattle.refusal.specs.Number.{numberOf}
 use Rattle.bits.specs.Bits.{bitsOf}
 use Rattle.frame.specs.declared.Step.{Step}
 use Rattle.frame.specs.declared.Step.the-variants.{Next, Refused}
@@ -29,11 +30,12 @@ whole bytes count = take count (bitsOf bytes)
 abbrev pub rowFor : Field → List Condition → Row
 rowFor f hang = row (f .width) (f .first) (f .codes) (f .refusal) 0 hang
 
--- a field that the code can read: a bit or more, in 32, and values that fit
+-- a field that the code can read and write: a bit or more, in 32, values that fit, and not the row of the missing group
 pub record Narrow (f : Field) : Type 0 where
   pub some : 0 < f .width
   pub few : f .width ≤ 32
   pub low : f .first + f .codes ≤ 2 ^ 32
+  pub plain : eqb (numberOf (f .refusal)) 5 ≡ false
 
 -- the places from p on hold 0
 abbrev pub Clear : List ℕ → ℕ → Type 0

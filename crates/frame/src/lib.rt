@@ -1,12 +1,15 @@
 // The frames of SS-DGNA: DEFINE, DEFINE-ACK, CANCEL and CANCEL-ACK, read from bits and written as bits.
 
+mod parts;
 pub mod place;
 mod reader;
 mod table;
+mod writer;
 
 use refusal::Refusal;
 ghost use mathlib.Core.Path.{_≡_};
-ghost use Rattle.frame.specs.Frame.{blankOf, readingOf};
+ghost use lib.ListN.{length};
+ghost use Rattle.frame.specs.Frame.{blankOf, readingOf, judgedOf, writtenOf, outputOf};
 
 pub enum Kind {
     Define,
@@ -59,6 +62,13 @@ pub struct Field {
 pub enum Step {
     Next(usize),
     Refused(Refusal, usize),
+}
+
+// What the writer's walk over a record finds: so many bits, a value without a code, or no group.
+pub enum Walked {
+    Bits(usize),
+    Reserved,
+    NoGroup,
 }
 
 // A frame's values, one place a row of its table, after SS-Type and action type; 0 where the row is not there.
@@ -114,4 +124,20 @@ pub fn read(kind: Kind, frame: &[u8], bits: usize) -> Reading
     ensures { λ r. ⌜ r ≡ readingOf kind (now (frame .entry)) bits ⌝ }
 {
     reader::read_frame(kind, frame, bits)
+}
+
+// Whether a record has a code: 4 over the whole record, then 5.
+pub fn fault(kind: Kind, values: Record) -> Judged
+    ensures { λ r. ⌜ r ≡ judgedOf kind (values .place) ⌝ }
+{
+    let place = values.place;
+    writer::judge_record(kind, &place)
+}
+
+// Writes a record's frame into `out` from the byte `start` on; refusals 4, 5 and 8 leave `out` as it is.
+pub fn write(kind: Kind, values: Record, out: &mut [u8], start: usize) -> Written
+    ensures { λ r. ⌜ (r ≡ writtenOf kind (values .place) (length (now (out .entry))) start) × (now (out .exit) ≡ outputOf kind (values .place) (now (out .entry)) start) ⌝ }
+{
+    let place = values.place;
+    writer::write_record(kind, &place, out, start)
 }

@@ -9,6 +9,21 @@ use crate::Shape;
 use crate::Step;
 use crate::Verdict;
 use crate::When;
+use crate::parts::choice;
+use crate::parts::count_field;
+use crate::parts::EXTENSION;
+use crate::parts::FORM;
+use crate::parts::least_for;
+use crate::parts::LETTER;
+use crate::parts::M_BIT;
+use crate::parts::nothing_between;
+use crate::parts::number;
+use crate::parts::SNA;
+use crate::parts::SSI;
+use crate::parts::stride_of;
+use crate::parts::there;
+use crate::parts::times_of;
+use crate::parts::wide;
 use crate::table::action_type;
 use crate::table::count_of;
 use crate::table::span_of;
@@ -30,52 +45,6 @@ ghost use Rattle.frame.specs.Read.{readRows};
 ghost use Rattle.frame.specs.Shape as rows;
 ghost use Rattle.frame.specs.Shape.{codesOf, times, least, stride, identity, item, repeated, rowsOf, span, conditionsOf};
 ghost use Rattle.frame.specs.Walk.{whole, rowFor, Narrow, Clear, Reads, onward, barredAt, sound, looks};
-
-const FORM: Field = Field {
-    width: 2,
-    first: 1,
-    codes: 3,
-    refusal: Refusal::Reserved,
-};
-
-const SNA: Field = Field {
-    width: 8,
-    first: 0,
-    codes: 256,
-    refusal: Refusal::Reserved,
-};
-
-const SSI: Field = Field {
-    width: 24,
-    first: 0,
-    codes: 16777216,
-    refusal: Refusal::Reserved,
-};
-
-const EXTENSION: Field = SSI;
-
-const LETTER: Field = SNA;
-
-const NUMBER_TYPE: Field = Field {
-    width: 4,
-    first: 1,
-    codes: 11,
-    refusal: Refusal::Reserved,
-};
-
-const LETTERS: Field = Field {
-    width: 4,
-    first: 1,
-    codes: 16,
-    refusal: Refusal::Reserved,
-};
-
-const M_BIT: Field = Field {
-    width: 1,
-    first: 0,
-    codes: 1,
-    refusal: Refusal::TypeThree,
-};
 
 // The field of a row that is there, into its place.
 fn read_field(
@@ -141,45 +110,6 @@ fn read_identity(frame: &[u8], bits: usize, at: usize, values: &mut [u32], place
     match read_field(frame, bits, at, values, place, FORM) {
         Step::Next(next) => read_form(frame, bits, next, values, place),
         Step::Refused(n, x) => Step::Refused(n, x),
-    }
-}
-
-// What a list's count holds, at least, where item `i` is there.
-fn least_for(items: Items, i: u32) -> u32
-    requires { ⌜ i < 16 ⌝ }
-    ensures { λ r. ⌜ r ≡ least items i ⌝ }
-{
-    match items {
-        Items::Numbers => if i < 2 { i + 1 } else { i + 2 },
-        Items::Letters => i + 1,
-    }
-}
-
-fn stride_of(items: Items) -> usize
-    ensures { λ r. ⌜ r ≡ stride items ⌝ }
-{
-    match items {
-        Items::Numbers => 4,
-        Items::Letters => 1,
-    }
-}
-
-fn times_of(items: Items) -> u32
-    ensures { λ r. ⌜ r ≡ times items ⌝ }
-{
-    match items {
-        Items::Numbers => 10,
-        Items::Letters => 16,
-    }
-}
-
-// A list's count.
-fn count_field(items: Items) -> Field
-    ensures { λ r. ⌜ rowFor r [] ≡ rows.choice 4 (codesOf items) [] × Narrow r ⌝ }
-{
-    match items {
-        Items::Numbers => NUMBER_TYPE,
-        Items::Letters => LETTERS,
     }
 }
 
@@ -284,51 +214,6 @@ fn barred(reason: bool, refusal: Refusal, at: usize) -> Step
     }
 }
 
-// Whether every place from `from` up to `to` holds 0.
-fn nothing_between(values: &[u32], from: usize, to: usize) -> bool
-    requires { ⌜ to ≤ length (now values) ⌝ }
-    ensures { λ r. ⌜ r ≡ all (λ v. eqb v 0) (drop from (take to (now (values .entry)))) ⌝ }
-{
-    let mut i = from;
-    while i < to {
-        if values[i] != 0 {
-            return false;
-        }
-        i += 1;
-    }
-    true
-}
-
-fn wide(x: u8) -> usize
-    ensures { λ r. ⌜ r ≡ x ⌝ }
-{
-    x as usize
-}
-
-fn number(width: usize) -> Field
-    requires { ⌜ (0 < width) × (width ≤ 24) ⌝ }
-    ensures { λ r. ⌜ rowFor r [] ≡ rows.number width [] × Narrow r ⌝ }
-{
-    Field {
-        width,
-        first: 0,
-        codes: 1u32 << width,
-        refusal: Refusal::Reserved,
-    }
-}
-
-fn choice(width: usize, codes: u8) -> Field
-    requires { ⌜ (0 < width) × (width ≤ 24) ⌝ }
-    ensures { λ r. ⌜ rowFor r [] ≡ rows.choice width codes [] × Narrow r ⌝ }
-{
-    Field {
-        width,
-        first: 1,
-        codes: codes as u32,
-        refusal: Refusal::Reserved,
-    }
-}
-
 // The rows of a shape that is there.
 fn read_shape(
     frame: &[u8],
@@ -353,17 +238,6 @@ fn read_shape(
             Refusal::NothingFollows,
             at,
         ),
-    }
-}
-
-// Whether an element is there.
-fn there(values: &[u32], when: When) -> bool
-    requires { ⌜ T (looks when (length (now values))) ⌝ }
-    ensures { λ r. ⌜ r ≡ present (now (values .entry)) (conditionsOf when) ⌝ }
-{
-    match when {
-        When::Always => true,
-        When::Is(place, v) => values[wide(place)] == v as u32,
     }
 }
 

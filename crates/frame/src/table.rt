@@ -94,7 +94,7 @@ const CANCEL_ACK: [Element; 4] = [
     Element(When::Always, Shape::Choice(1, 2)),
     Element(When::Is(CALL, Y), Shape::Number(14)),
     Element(When::Is(CALL, N), Shape::Identity),
-    Element(When::Always, Shape::Choice(1, 2)),
+    Element(When::Always, Shape::Number(1)),
 ];
 
 // A short table, filled up.

@@ -3,7 +3,9 @@
 use mathlib.Core.Path.{sym, _∙_}
 use native.Mathlib.Omega.{arith}
 use Rattle.frame.specs.Shape.{rowsOf, conditionsOf}
-use Rattle.frame.proofs.Absent.{present-when, shut-element, reads-off, length-shape}
+use Rattle.frame.proofs.Absent.{present-when, shut-element, passes, length-shape}
+use Rattle.frame.specs.Walk.{whole}
+use Rattle.frame.proofs.ReadLaws.{reading}
 use Rattle.frame.proofs.ShapeLaws.{shape-under}
 use borrow.Author.Needs.{needs}
 use Rattle.frame.proofs.reader.read_element.Statement.{statement}
@@ -11,7 +13,7 @@ use Rattle.frame.proofs.reader.read_element.Tie as tie
 use Rattle.frame.proofs.reader.read_element.Reads as reads
 use Rattle.frame.proofs.reader.read_element.Lts as lts
 use Rattle.frame.proofs.reader.read_shape.Reads as read-shape-reads
-use Rattle.frame.proofs.reader.there.Reads as there-reads
+use Rattle.frame.proofs.parts.there.Reads as there-reads
 
 there-requires : tie.Need-there-requires
 there-requires c κs = search needs
@@ -25,7 +27,7 @@ same-length c = search needs
 returns : tie.Need-returns
 returns c =
     let s = c .before .before .before .before .before .before .before .before .before in
-    shape-under (s .args .element .1) _ _ (s .args .at) (s .args .place) (s .args .values .now) _ _
+    shape-under (reading (whole (s .args .frame .now) (s .args .bits))) (s .args .element .1) _ (s .args .at) (s .args .place) (s .args .values .now) _ _
     (present-when (s .args .element .0) (s .args .values .now) (s .args .place) (s .pre .2) ∙ sym (c .before .before .before .before .before .there .ensures) ∙ c .before .before .before .before .if1 .taken) (c .before .before .read-shape .ensures)
 
 same-length-2 : tie.Need-same-length-2
@@ -35,8 +37,8 @@ returns-2 : tie.Need-returns-2
 returns-2 c =
     let s = c .before .before .before .before .before in
     let e = s .args .element in
-    reads-off (s .args .values .now) (s .args .place) _ (shut-element (e .0) (e .1) (s .args .place) (s .args .values .now) (sym (c .before .there .ensures) ∙ c .if1 .left) (s .pre .2)) (s .pre .2)
-    (omega (arith, length-shape (e .1) (conditionsOf (e .0)) (s .args .place))) _ (s .args .at)
+    passes (reading (whole (s .args .frame .now) (s .args .bits))) (s .args .at) (s .args .place) (s .args .values .now) _ (shut-element (e .0) (e .1) (s .args .place) (s .args .values .now) (sym (c .before .there .ensures) ∙ c .if1 .left) (s .pre .2)) (s .pre .2)
+    (omega (arith, length-shape (e .1) (conditionsOf (e .0)) (s .args .place)))
 
 pub read-element-spec : {M : Type 1} → statement M
 read-element-spec =

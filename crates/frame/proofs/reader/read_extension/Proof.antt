@@ -1,5 +1,7 @@
 -- `frame::reader::read_extension` meets its contract: the row is there under form 3.
 -- Assumes nothing.
+use Rattle.frame.proofs.ReadLaws.{reading}
+use Rattle.frame.specs.Walk.{whole}
 use Rattle.frame.proofs.IdentityLaws.{extension-on, extension-off}
 use borrow.Author.Needs.{needs}
 use Rattle.frame.proofs.reader.read_extension.Statement.{statement}
@@ -26,12 +28,12 @@ same-length c = search needs
 returns : tie.Need-returns
 returns c =
     let s = c .before .before .before .before .before .before .before .before in
-    extension-on _ (s .args .place) (s .args .values .now) (s .pre .1) (s .args .at) _ _ (c .before .before .before .before .if1 .taken) (c .before .before .read-field .ensures)
+    extension-on (reading (whole (s .args .frame .now) (s .args .bits))) (s .args .place) (s .args .values .now) (s .pre .1) (s .args .at) _ _ (c .before .before .before .before .if1 .taken) (c .before .before .read-field .ensures)
 
 returns-2 : tie.Need-returns-2
 returns-2 c =
     let s = c .before .before .before .before in
-    extension-off _ (s .args .place) (s .args .values .now) (s .pre .1) (s .args .at) (c .if1 .left) (s .pre .2)
+    extension-off (reading (whole (s .args .frame .now) (s .args .bits))) (s .args .place) (s .args .values .now) (s .pre .1) (s .args .at) (c .if1 .left) (s .pre .2)
 
 pub read-extension-spec : {M : Type 1} → statement M
 read-extension-spec =

@@ -1,8 +1,11 @@
 -- `frame::reader::read_form` meets its contract: form 1 is an SNA, a higher one an SSI, form 3 with an extension.
 -- Assumes nothing.
+use Rattle.frame.proofs.Walks.{clear-after}
+use Rattle.frame.proofs.ReadLaws.{reading}
+use Rattle.frame.specs.Walk.{whole}
 use mathlib.Core.Path.{_≡_, sym}
 use native.Mathlib.Omega.{arith}
-use Rattle.frame.proofs.IdentityLaws.{clear-after, form-sna, form-none, form-stop, form-ssi}
+use Rattle.frame.proofs.IdentityLaws.{form-sna, form-none, form-stop, form-ssi}
 use borrow.Author.Needs.{needs}
 use Rattle.frame.proofs.reader.read_form.Statement.{statement}
 use Rattle.frame.proofs.reader.read_form.Tie as tie
@@ -29,7 +32,7 @@ same-length c = search needs
 returns : tie.Need-returns
 returns c =
     let s = c .before .before .before .before .before .before .before .before in
-    form-sna _ (s .args .place) (s .args .values .now) (s .pre .1) (s .args .at) _ _ (c .before .before .before .before .if1 .taken) (s .pre .2) (c .before .before .read-field .ensures)
+    form-sna (reading (whole (s .args .frame .now) (s .args .bits))) (s .args .place) (s .args .values .now) (s .pre .1) (s .args .at) _ _ (c .before .before .before .before .if1 .taken) (s .pre .2) (c .before .before .read-field .ensures)
 
 mul-if2 : tie.Need-mul-if2
 mul-if2 c = search needs
@@ -40,7 +43,7 @@ slice-read-if2 c = search needs
 returns-2 : tie.Need-returns-2
 returns-2 c =
     let s = c .before .before .before .before .before .before in
-    form-none _ (s .args .place) (s .args .values .now) (s .pre .1) (s .args .at) (omega arith) (s .pre .2)
+    form-none (reading (whole (s .args .frame .now) (s .args .bits))) (s .args .place) (s .args .values .now) (s .pre .1) (s .args .at) (omega arith) (s .pre .2)
 
 add-read-field-2 : tie.Need-add-read-field-2
 add-read-field-2 c = search needs
@@ -55,7 +58,7 @@ read-extension-requires : tie.Need-read-extension-requires
 read-extension-requires c κs =
     let s = c .before .before .before .before .before .before .before .before .before .before .before .before .before .before in
     let f = c .before .before .before .before .before .before .read-field2 .ensures in
-    (s .pre .0, omega (arith, f .size), λ q h. clear-after f (λ q h. s .pre .2 q (omega arith)) q (omega arith))
+    (s .pre .0, omega (arith, f .size), λ q h. clear-after (reading (whole (s .args .frame .now) (s .args .bits))) _ _ _ _ _ _ _ (c .before .before .next .given .1) f (λ q h. s .pre .2 q (omega arith)) q (omega arith))
 
 enum-known-n : tie.Need-enum-known-n
 enum-known-n c = search needs
@@ -66,7 +69,7 @@ same-length-2 c = search needs
 returns-3 : tie.Need-returns-3
 returns-3 c =
     let s = c .before .before .before .before .before .before .before .before .before .before .before .before .before .before .before .before .before in
-    form-ssi _ (s .args .place) (s .args .values .now) (s .pre .1) (s .args .at) _ _ (c .before .before .before .before .before .before .before .before .before .before .before .if2 .left) (s .pre .2) (c .before .before .before .before .before .before .before .before .before .read-field2 .ensures) _ _ _ (c .before .before .before .before .before .next .given .1) (c .before .before .read-extension .ensures)
+    form-ssi (reading (whole (s .args .frame .now) (s .args .bits))) (s .args .place) (s .args .values .now) (s .pre .1) (s .args .at) _ _ (c .before .before .before .before .before .before .before .before .before .before .before .if2 .left) (s .pre .2) (c .before .before .before .before .before .before .before .before .before .read-field2 .ensures) _ _ _ (c .before .before .before .before .before .next .given .1) (c .before .before .read-extension .ensures)
 
 same-length-3 : tie.Need-same-length-3
 same-length-3 c = search needs
@@ -74,7 +77,7 @@ same-length-3 c = search needs
 returns-4 : tie.Need-returns-4
 returns-4 c =
     let s = c .before .before .before .before .before .before .before .before .before .before .before .before .before in
-    form-stop _ (s .args .place) (s .args .values .now) (s .pre .1) (s .args .at) _ _ (c .before .before .before .before .before .before .before .if2 .left) (s .pre .2) (c .before .before .before .before .before .read-field2 .ensures) _ _ (c .before .n .given .1)
+    form-stop (reading (whole (s .args .frame .now) (s .args .bits))) (s .args .place) (s .args .values .now) (s .pre .1) (s .args .at) _ _ (c .before .before .before .before .before .before .before .if2 .left) (s .pre .2) (c .before .before .before .before .before .read-field2 .ensures) _ (c .before .n .given .1) tt
 
 pub read-form-spec : {M : Type 1} → statement M
 read-form-spec =

@@ -1,12 +1,13 @@
 -- `frame::reader::read_identity` meets its contract: the form, then what follows it.
 -- Assumes nothing.
+use Rattle.frame.proofs.Walks.{goes-then, goes-stop, clear-after}
+use Rattle.frame.proofs.ReadLaws.{reading}
+use Rattle.frame.specs.Walk.{whole}
 use mathlib.Core.Path.{subst}
 use mathlib.Core.List.{[], _∷_}
 use native.Mathlib.Omega.{arith}
 use Rattle.frame.specs.declared.Step.{Step}
 use Rattle.frame.specs.Walk.{Reads}
-use Rattle.frame.proofs.ReadLaws.{reads-on, reads-stop, reads-then, reads-end}
-use Rattle.frame.proofs.IdentityLaws.{clear-after}
 use borrow.Author.Needs.{needs}
 use Rattle.frame.proofs.reader.read_identity.Statement.{statement}
 use Rattle.frame.proofs.reader.read_identity.Tie as tie
@@ -25,7 +26,7 @@ read-form-requires : tie.Need-read-form-requires
 read-form-requires c κs =
     let s = c .before .before .before .before .before .before .before .before .before .before in
     let f = c .before .before .before .before .before .before .read-field .ensures in
-    (s .pre .0, omega (arith, f .size), λ q h. clear-after f (s .pre .2) q (omega arith))
+    (s .pre .0, omega (arith, f .size), λ q h. clear-after (reading (whole (s .args .frame .now) (s .args .bits))) _ _ _ _ _ _ _ (c .before .before .next .given .1) f (s .pre .2) q (omega arith))
 
 enum-known-n : tie.Need-enum-known-n
 enum-known-n c = search needs
@@ -34,13 +35,17 @@ same-length : tie.Need-same-length
 same-length c = search needs
 
 returns : tie.Need-returns
-returns c = reads-then _ _ _ _ _ _ _ _ _ _ _ (c .before .before .before .before .before .next .given .1) (c .before .before .before .before .before .before .before .before .before .read-field .ensures) (c .before .before .read-form .ensures)
+returns c =
+    let s = c .before .before .before .before .before .before .before .before .before .before .before .before .before in
+    goes-then (reading (whole (s .args .frame .now) (s .args .bits))) _ _ _ _ _ _ _ _ _ _ (c .before .before .before .before .before .next .given .1) (c .before .before .before .before .before .before .before .before .before .read-field .ensures) (c .before .before .read-form .ensures)
 
 same-length-2 : tie.Need-same-length-2
 same-length-2 c = search needs
 
 returns-2 : tie.Need-returns-2
-returns-2 c = reads-end _ _ _ _ _ _ _ _ _ _ (c .before .n .given .1) (c .before .before .before .before .before .read-field .ensures)
+returns-2 c =
+    let s = c .before .before .before .before .before .before .before .before .before in
+    goes-stop (reading (whole (s .args .frame .now) (s .args .bits))) _ _ _ _ _ _ _ _ (c .before .n .given .1) tt (c .before .before .before .before .before .read-field .ensures)
 
 pub read-identity-spec : {M : Type 1} → statement M
 read-identity-spec =

@@ -1,6 +1,6 @@
 -- `frame::reader::read_item` meets its contract: an identity, or a letter.
 -- Assumes nothing.
-use mathlib.Core.Path.{ap}
+use mathlib.Core.Path.{refl, ap}
 use native.Mathlib.Omega.{arith}
 use Rattle.frame.specs.Shape.{stride}
 use borrow.Author.Needs.{needs}
@@ -25,7 +25,7 @@ enum-told-2 c = search needs
 read-field-requires : tie.Need-read-field-requires
 read-field-requires c κs =
     let s = c .before .before .before .before .before in
-    (s .pre .0, omega (arith, ap stride (c .before .enum-told2 .given .1)), record { some = omega arith; few = omega arith; low = omega arith })
+    (s .pre .0, omega (arith, ap stride (c .before .enum-told2 .given .1)), record { some = omega arith; few = omega arith; low = omega arith; plain = refl })
 
 same-length : tie.Need-same-length
 same-length c = search needs

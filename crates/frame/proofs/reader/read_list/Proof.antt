@@ -1,14 +1,16 @@
 -- `frame::reader::read_list` meets its contract: the count, then the items.
 -- Assumes nothing.
+use Rattle.frame.proofs.Walks.{clear-after}
+use Rattle.frame.proofs.ReadLaws.{reading}
+use Rattle.frame.specs.Walk.{whole}
 use native.Mathlib.Omega.{arith}
 use Rattle.frame.proofs.ListLaws.{list-on, list-stop}
-use Rattle.frame.proofs.IdentityLaws.{clear-after}
 use borrow.Author.Needs.{needs}
 use Rattle.frame.proofs.reader.read_list.Statement.{statement}
 use Rattle.frame.proofs.reader.read_list.Tie as tie
 use Rattle.frame.proofs.reader.read_list.Reads as reads
 use Rattle.frame.proofs.reader.read_list.Lts as lts
-use Rattle.frame.proofs.reader.count_field.Reads as count-field-reads
+use Rattle.frame.proofs.parts.count_field.Reads as count-field-reads
 use Rattle.frame.proofs.reader.read_field.Reads as read-field-reads
 use Rattle.frame.proofs.reader.read_items.Reads as read-items-reads
 
@@ -25,7 +27,7 @@ read-items-requires : tie.Need-read-items-requires
 read-items-requires c κs =
     let s = c .before .before .before .before .before .before .before .before .before .before .before in
     let f = c .before .before .before .before .before .before .read-field .ensures in
-    (s .pre .0, omega (arith, f .size), λ q h. clear-after f (s .pre .2) q (omega arith))
+    (s .pre .0, omega (arith, f .size), λ q h. clear-after (reading (whole (s .args .frame .now) (s .args .bits))) _ _ _ _ _ _ _ (c .before .before .next .given .1) f (s .pre .2) q (omega arith))
 
 enum-known-n : tie.Need-enum-known-n
 enum-known-n c = search needs
@@ -36,7 +38,7 @@ same-length c = search needs
 returns : tie.Need-returns
 returns c =
     let s = c .before .before .before .before .before .before .before .before .before .before .before .before .before .before in
-    list-on (s .args .items) _ (s .args .at) (s .args .place) (s .args .values .now) _ _ (c .before .before .before .before .before .before .before .before .before .before .count-field .ensures .0) _ (c .before .before .before .before .before .before .before .before .before .read-field .ensures) _ _ _ (c .before .before .before .before .before .next .given .1) (c .before .before .read-items .ensures)
+    list-on (reading (whole (s .args .frame .now) (s .args .bits))) (s .args .items) (s .args .at) (s .args .place) (s .args .values .now) _ _ (c .before .before .before .before .before .before .before .before .before .before .count-field .ensures .0) _ (c .before .before .before .before .before .before .before .before .before .read-field .ensures) _ _ _ (c .before .before .before .before .before .next .given .1) (c .before .before .read-items .ensures)
 
 same-length-2 : tie.Need-same-length-2
 same-length-2 c = search needs
@@ -44,7 +46,7 @@ same-length-2 c = search needs
 returns-2 : tie.Need-returns-2
 returns-2 c =
     let s = c .before .before .before .before .before .before .before .before .before .before in
-    list-stop (s .args .items) _ (s .args .at) (s .args .place) (s .args .values .now) _ _ (c .before .before .before .before .before .before .count-field .ensures .0) _ (c .before .before .before .before .before .read-field .ensures) _ _ (c .before .n .given .1)
+    list-stop (reading (whole (s .args .frame .now) (s .args .bits))) (s .args .items) (s .args .at) (s .args .place) (s .args .values .now) _ _ (c .before .before .before .before .before .before .count-field .ensures .0) _ (c .before .before .before .before .before .read-field .ensures) _ (c .before .n .given .1) tt
 
 pub read-list-spec : {M : Type 1} → statement M
 read-list-spec =

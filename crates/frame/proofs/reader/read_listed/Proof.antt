@@ -1,5 +1,7 @@
 -- `frame::reader::read_listed` meets its contract: the item is there where the count says so.
 -- Assumes nothing.
+use Rattle.frame.proofs.ReadLaws.{reading}
+use Rattle.frame.specs.Walk.{whole}
 use mathlib.Core.Path.{sym, subst}
 use native.Mathlib.Omega.{arith}
 use Rattle.frame.proofs.ListLaws.{item-on, item-off}
@@ -8,7 +10,7 @@ use Rattle.frame.proofs.reader.read_listed.Statement.{statement}
 use Rattle.frame.proofs.reader.read_listed.Tie as tie
 use Rattle.frame.proofs.reader.read_listed.Reads as reads
 use Rattle.frame.proofs.reader.read_listed.Lts as lts
-use Rattle.frame.proofs.reader.least_for.Reads as least-for-reads
+use Rattle.frame.proofs.parts.least_for.Reads as least-for-reads
 use Rattle.frame.proofs.reader.read_item.Reads as read-item-reads
 
 least-for-requires : tie.Need-least-for-requires
@@ -29,12 +31,12 @@ same-length c = search needs
 returns : tie.Need-returns
 returns c =
     let s = c .before .before .before .before .before .before .before .before .before in
-    item-on (s .args .items) _ (s .args .count) (s .args .place) _ (s .args .values .now) (s .pre .2) (s .args .at) _ _ (omega (arith, c .before .before .before .before .before .before .least-for .ensures)) (c .before .before .read-item .ensures)
+    item-on (reading (whole (s .args .frame .now) (s .args .bits))) (s .args .items) (s .args .count) (s .args .place) _ (s .args .values .now) (s .pre .2) (s .args .at) _ _ (omega (arith, c .before .before .before .before .before .before .least-for .ensures)) (c .before .before .read-item .ensures)
 
 returns-2 : tie.Need-returns-2
 returns-2 c =
     let s = c .before .before .before .before .before in
-    item-off (s .args .items) _ (s .args .count) (s .args .place) _ (s .args .values .now) (s .pre .2) (s .args .at) (omega (arith, c .before .before .least-for .ensures)) (s .pre .4) (s .pre .3)
+    item-off (reading (whole (s .args .frame .now) (s .args .bits))) (s .args .items) (s .args .count) (s .args .place) _ (s .args .values .now) (s .pre .2) (s .args .at) (omega (arith, c .before .before .least-for .ensures)) (s .pre .4) (s .pre .3)
 
 pub read-listed-spec : {M : Type 1} → statement M
 read-listed-spec =

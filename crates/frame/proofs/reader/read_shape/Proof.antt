@@ -1,9 +1,11 @@
 -- `frame::reader::read_shape` meets its contract, shape by shape.
 -- Assumes nothing.
-use mathlib.Core.Path.{ap, sym, _∙_}
+use mathlib.Core.Path.{refl, ap, sym, _∙_}
 use mathlib.Core.List.{[]}
 use native.Mathlib.Omega.{arith}
-use Rattle.frame.specs.Shape.{number, choice, span}
+use Rattle.frame.specs.Shape.{span}
+use Rattle.frame.specs.Walk.{whole}
+use Rattle.frame.proofs.ReadLaws.{reading}
 use Rattle.frame.proofs.ShapeLaws.{sound-number, sound-choice, sound-missing, sound-nothing, list-room, shape-number, shape-choice, shape-ending, shape-identity, shape-list, shape-missing, shape-nothing, span-some}
 use borrow.Author.Needs.{needs}
 use Rattle.frame.proofs.reader.read_shape.Statement.{statement}
@@ -11,13 +13,13 @@ use Rattle.frame.proofs.reader.read_shape.Tie as tie
 use Rattle.frame.proofs.reader.read_shape.Reads as reads
 use Rattle.frame.proofs.reader.read_shape.Lts as lts
 use Rattle.frame.proofs.reader.barred.Reads as barred-reads
-use Rattle.frame.proofs.reader.choice.Reads as choice-reads
-use Rattle.frame.proofs.reader.nothing_between.Reads as nothing-between-reads
-use Rattle.frame.proofs.reader.number.Reads as number-reads
+use Rattle.frame.proofs.parts.choice.Reads as choice-reads
+use Rattle.frame.proofs.parts.nothing_between.Reads as nothing-between-reads
+use Rattle.frame.proofs.parts.number.Reads as number-reads
 use Rattle.frame.proofs.reader.read_field.Reads as read-field-reads
 use Rattle.frame.proofs.reader.read_identity.Reads as read-identity-reads
 use Rattle.frame.proofs.reader.read_list.Reads as read-list-reads
-use Rattle.frame.proofs.reader.wide.Reads as wide-reads
+use Rattle.frame.proofs.parts.wide.Reads as wide-reads
 
 enum-known-shape : tie.Need-enum-known-shape
 enum-known-shape c = search needs
@@ -76,7 +78,7 @@ enum-told-2 c = search needs
 read-field-requires-3 : tie.Need-read-field-requires-3
 read-field-requires-3 c κs =
     let s = c .before .before .before .before .before in
-    (s .pre .0, omega (arith, span-some (s .args .shape)), record { some = omega arith; few = omega arith; low = omega arith })
+    (s .pre .0, omega (arith, span-some (s .args .shape)), record { some = omega arith; few = omega arith; low = omega arith; plain = refl })
 
 enum-known-shape-4 : tie.Need-enum-known-shape-4
 enum-known-shape-4 c = search needs
@@ -117,7 +119,7 @@ same-length c = search needs
 returns : tie.Need-returns
 returns c =
     let s = c .before .before .before .before .before .before .before .before .before .before .before in
-    shape-number (s .args .shape) _ (s .args .at) (s .args .place) (s .args .values .now) _ _ _ _ _ (c .before .before .before .before .before .before .before .shape .given .1) (c .before .before .before .before .wide .ensures) (c .before .before .before .number .ensures .0) (c .before .before .read-field .ensures)
+    shape-number (reading (whole (s .args .frame .now) (s .args .bits))) (s .args .shape) (s .args .at) (s .args .place) (s .args .values .now) _ _ _ _ _ (c .before .before .before .before .before .before .before .shape .given .1) (c .before .before .before .before .wide .ensures) (c .before .before .before .number .ensures .0) (c .before .before .read-field .ensures)
 
 same-length-2 : tie.Need-same-length-2
 same-length-2 c = search needs
@@ -125,7 +127,7 @@ same-length-2 c = search needs
 returns-2 : tie.Need-returns-2
 returns-2 c =
     let s = c .before .before .before .before .before .before .before .before .before .before .before in
-    shape-choice (s .args .shape) _ (s .args .at) (s .args .place) (s .args .values .now) _ _ _ _ _ _ (c .before .before .before .before .before .before .before .shape2 .given .1) (c .before .before .before .before .wide2 .ensures) (c .before .before .before .choice .ensures .0) (c .before .before .read-field2 .ensures)
+    shape-choice (reading (whole (s .args .frame .now) (s .args .bits))) (s .args .shape) (s .args .at) (s .args .place) (s .args .values .now) _ _ _ _ _ _ (c .before .before .before .before .before .before .before .shape2 .given .1) (c .before .before .before .before .wide2 .ensures) (c .before .before .before .choice .ensures .0) (c .before .before .read-field2 .ensures)
 
 same-length-3 : tie.Need-same-length-3
 same-length-3 c = search needs
@@ -133,7 +135,7 @@ same-length-3 c = search needs
 returns-3 : tie.Need-returns-3
 returns-3 c =
     let s = c .before .before .before .before .before .before .before .before in
-    shape-identity (s .args .shape) _ (s .args .at) (s .args .place) (s .args .values .now) _ _ (c .before .before .before .before .enum-told .given .1) (c .before .before .read-identity .ensures)
+    shape-identity (reading (whole (s .args .frame .now) (s .args .bits))) (s .args .shape) (s .args .at) (s .args .place) (s .args .values .now) _ _ (c .before .before .before .before .enum-told .given .1) (c .before .before .read-identity .ensures)
 
 same-length-4 : tie.Need-same-length-4
 same-length-4 c = search needs
@@ -141,7 +143,7 @@ same-length-4 c = search needs
 returns-4 : tie.Need-returns-4
 returns-4 c =
     let s = c .before .before .before .before .before .before .before .before .before in
-    shape-list (s .args .shape) _ (s .args .at) (s .args .place) (s .args .values .now) _ _ _ (c .before .before .before .before .before .shape3 .given .1) (c .before .before .read-list .ensures)
+    shape-list (reading (whole (s .args .frame .now) (s .args .bits))) (s .args .shape) (s .args .at) (s .args .place) (s .args .values .now) _ _ _ (c .before .before .before .before .before .shape3 .given .1) (c .before .before .read-list .ensures)
 
 same-length-5 : tie.Need-same-length-5
 same-length-5 c = search needs
@@ -149,7 +151,7 @@ same-length-5 c = search needs
 returns-5 : tie.Need-returns-5
 returns-5 c =
     let s = c .before .before .before .before .before .before .before .before in
-    shape-ending (s .args .shape) _ (s .args .at) (s .args .place) (s .args .values .now) _ _ (c .before .before .before .before .enum-told2 .given .1) (c .before .before .read-field3 .ensures)
+    shape-ending (reading (whole (s .args .frame .now) (s .args .bits))) (s .args .shape) (s .args .at) (s .args .place) (s .args .values .now) _ _ (c .before .before .before .before .enum-told2 .given .1) (c .before .before .read-field3 .ensures)
 
 returns-6 : tie.Need-returns-6
 returns-6 c =

@@ -1,0 +1,232 @@
+#!/usr/bin/env python3
+"""House text for tests and for the benchmark, and what the echo program has to say to it.
+  lines.py COUNT [SEED]          COUNT lines: frames of all four kinds, composed at random from the tables, some of them damaged
+  lines.py --good COUNT [SEED]   whole frames alone
+  lines.py --replies < LINES     the reply to each line, by a decoder of its own"""
+import random
+import sys
+
+SS_TYPE = 0b010100
+DEFINE, DEFINE_ACK, CANCEL, CANCEL_ACK = 1, 2, 3, 4
+ACTION = {DEFINE: 0b0011, DEFINE_ACK: 0b0011, CANCEL: 0b0110, CANCEL_ACK: 0b0110}
+LONGEST = 432  # digits of a line
+
+
+class Refused(Exception):
+    """A frame that is not taken, with the refusal's number."""
+
+
+class Reading:
+    """The elements of a frame, taken one after the other from its bits. Codes other than `codes` are reserved."""
+
+    def __init__(self, bits):
+        self.bits, self.at = bits, 0
+
+    def take(self, width, codes=None, chosen=None):
+        if len(self.bits) - self.at < width:
+            raise Refused(1)
+        code = int(self.bits[self.at:self.at + width], 2)
+        self.at += width
+        if codes is not None and code not in codes:
+            raise Refused(4)
+        return code
+
+    def refuse(self, number):
+        raise Refused(number)
+
+
+class Composing:
+    """The elements of a frame, chosen at random and laid one after the other: among `codes`, or `chosen` where only those make a frame."""
+
+    def __init__(self, rng):
+        self.rng, self.bits = rng, ""
+
+    def take(self, width, codes=None, chosen=None):
+        codes = codes if chosen is None else chosen
+        code = self.rng.getrandbits(width) if codes is None else self.rng.choice(codes)
+        self.bits += format(code, f"0{width}b")
+        return code
+
+    def refuse(self, number):
+        raise Refused(number)
+
+
+def identity(frame):
+    form = frame.take(2, range(3))
+    frame.take(8 if form == 0 else 24)
+    if form == 2:
+        frame.take(24)
+
+
+def numbers(frame):
+    kind = frame.take(4, range(11))
+    for _ in range({0: 1, 1: 2}.get(kind, kind)):
+        identity(frame)
+
+
+def ending(frame, options):
+    if frame.take(1, chosen=[0]) == 1:
+        frame.refuse(7)
+    if not options:
+        frame.refuse(6)
+
+
+def define(frame, related):
+    given = frame.take(1) == 0
+    if given:
+        numbers(frame)
+    elif not related:
+        frame.refuse(5)
+    if frame.take(1) == 0:
+        return
+    options = 0
+    for element in (
+        lambda: frame.take(3),                                              # set reference
+        lambda: frame.take(1) == 0 and numbers(frame),                      # owners included
+        lambda: frame.take(1),                                              # acknowledged call
+        lambda: frame.take(1),                                              # broadcast
+        lambda: [frame.take(8) for _ in range(frame.take(4) + 1)],          # name
+        lambda: frame.take(1) == 0 and numbers(frame),                      # assignment indication
+        lambda: frame.take(1, [0]),                                         # acknowledgement requested
+        lambda: frame.take(3),                                              # class of usage
+        lambda: frame.take(2),                                              # attachment lifetime
+        lambda: frame.take(3),                                              # temporary assignment
+    ):
+        if frame.take(1) == 1:
+            options += 1
+            element()
+    ending(frame, options)
+
+
+def body(frame, kind):
+    """All that follows the head of a frame of that kind."""
+    related = frame.take(1) == 0
+    if related:
+        frame.take(14)
+    if kind == DEFINE:
+        define(frame, related)
+    elif kind == DEFINE_ACK:
+        numbers(frame)
+        frame.take(4)
+        if frame.take(1, chosen=[0]) == 1:
+            ending(frame, 0)
+    else:
+        if not related:
+            identity(frame)
+        if kind == CANCEL:
+            identity(frame)
+        else:
+            frame.take(1)
+
+
+def read(kind, bits):
+    """Refuses a run of bits that is no frame of that kind."""
+    frame = Reading(bits)
+    head = frame.take(6), frame.take(4)
+    if head != (SS_TYPE, ACTION[kind]):
+        frame.refuse(3)
+    body(frame, kind)
+    if frame.at < len(bits):
+        frame.refuse(2)
+
+
+def reply(line):
+    """What the echo program says to a line, given without its newline."""
+    text = line.decode("latin-1")
+    if not 6 <= len(text) <= LONGEST or any(c not in "0123456789ABCDEF" for c in text):
+        return "R9"
+    kind, count = int(text[:2], 16), int(text[2:6], 16)
+    if kind not in ACTION or len(text) != 6 + 2 * ((count + 7) // 8):
+        return "R9"
+    bits = "".join(format(int(c, 16), "04b") for c in text[6:])[:count]
+    try:
+        read(kind, bits)
+    except Refused as refusal:
+        return f"R{refusal.args[0]}"
+    return "A" + line_of(kind, bits)
+
+
+def line_of(kind, bits):
+    size = (len(bits) + 7) // 8
+    spare = bits.ljust(8 * size, "0")
+    return f"{kind:02X}{len(bits):04X}" + "".join(f"{int(spare[k:k + 8], 2):02X}" for k in range(0, 8 * size, 8))
+
+
+def compose(rng):
+    """A frame, two in five a DEFINE: its kind and its bits. Choices that make no frame are made again."""
+    while True:
+        kind = rng.choice([DEFINE, DEFINE, DEFINE_ACK, CANCEL, CANCEL_ACK])
+        frame = Composing(rng)
+        frame.bits = format(SS_TYPE, "06b") + format(ACTION[kind], "04b")
+        try:
+            body(frame, kind)
+        except Refused:
+            continue
+        return kind, frame.bits
+
+
+def flip(rng, kind, bits):
+    at = rng.randrange(min(len(bits), rng.choice([20, 40, 2000])))
+    return line_of(kind, bits[:at] + "10"[int(bits[at])] + bits[at + 1:])
+
+
+def cut(rng, kind, bits):
+    return line_of(kind, bits[:rng.randrange(len(bits))])
+
+
+def extra(rng, kind, bits):
+    return line_of(kind, bits + format(rng.getrandbits(8), "08b")[:rng.randint(1, 8)])
+
+
+def other_kind(rng, kind, bits):
+    return line_of(rng.choice([0, 1, 2, 3, 4, 5, 13, 255]), bits)
+
+
+def spare_bits(rng, kind, bits):
+    line = line_of(kind, bits)
+    return line[:-1] + rng.choice("0123456789ABCDEF")
+
+
+def character(rng, kind, bits):
+    line = line_of(kind, bits)
+    at = rng.randrange(len(line))
+    return line[:at] + rng.choice(["g", "a", "G", " ", "\r", "\0", "\xff", "/", ":", "@"]) + line[at + 1:]
+
+
+def length(rng, kind, bits):
+    line = line_of(kind, bits)
+    return rng.choice([line[:-1], line[:-2], line + "0", line + "00", "", line * 9])
+
+
+DAMAGE = [flip, flip, flip, cut, cut, extra, other_kind, spare_bits, character, length]
+
+
+def lines(count, seed, damaged):
+    rng = random.Random(seed)
+    for _ in range(count):
+        kind, bits = compose(rng)
+        if rng.random() < damaged:
+            yield rng.choice(DAMAGE)(rng, kind, bits)
+        else:
+            yield line_of(kind, bits)
+
+
+def main(words):
+    out = sys.stdout.buffer
+    if words[:1] == ["--replies"]:
+        text = sys.stdin.buffer.read()
+        given = text.split(b"\n")
+        if given[-1] == b"":
+            given.pop()
+        for line in given:
+            out.write(reply(line).encode() + b"\n")
+        return
+    good = words[:1] == ["--good"]
+    words = words[1:] if good else words
+    if not words:
+        sys.exit(__doc__)
+    for line in lines(int(words[0]), int(words[1]) if len(words) > 1 else 1, 0 if good else 0.4):
+        out.write(line.encode("latin-1") + b"\n")
+
+
+main(sys.argv[1:])

@@ -1,0 +1,2 @@
+-- The definitions that the contracts of `echo` cite.
+pub mod Room

@@ -1,0 +1,221 @@
+// Echoes house text: for each line of standard input A and the line made anew, or R and the refusal's number.
+use house::echo_line;
+use libc::STDIN_FILENO;
+use libc::STDOUT_FILENO;
+ghost use Prim.Native.Nat.{_+_, _≤_};
+ghost use lib.ListN.{length};
+ghost use Rattle.echo.specs.Room.{RoomIn, RestIn, HeldIn};
+
+// How far the output buffer is filled, with room for one more reply.
+enum Room {
+    Filled(usize),
+    Failed,
+}
+
+// Where the rest of the text starts, after the last newline.
+enum Progress {
+    Rest(usize),
+    Failed,
+}
+
+// How many bytes are held at the front of the input buffer; or the input ended, or a call failed.
+enum Input {
+    Held(usize),
+    Ended,
+    Failed,
+}
+
+// Whether a newline is among eight bytes: one test for all, so that the search passes over a line in few steps.
+fn newline_in(text: &[u8], i: usize) -> bool
+    requires { ⌜ i + 8 ≤ length (now text) ⌝ }
+{
+    (text[i] == b'\n')
+        | (text[i + 1] == b'\n')
+        | (text[i + 2] == b'\n')
+        | (text[i + 3] == b'\n')
+        | (text[i + 4] == b'\n')
+        | (text[i + 5] == b'\n')
+        | (text[i + 6] == b'\n')
+        | (text[i + 7] == b'\n')
+}
+
+// The start of the eight bytes in which the next newline is, or of what is left.
+fn skip_quiet(text: &[u8], from: usize) -> usize
+    requires { ⌜ from ≤ length (now text) ⌝ }
+    ensures { λ r. ⌜ (from ≤ r) × (r ≤ length (now (text .entry))) ⌝ }
+{
+    let mut i = from;
+    while 8 <= text.len() - i {
+        if newline_in(text, i) {
+            return i;
+        }
+        i += 8;
+    }
+    i
+}
+
+// Where the line that starts at `from` ends: at its newline, or at the end of the text.
+fn line_end(text: &[u8], from: usize) -> usize
+    requires { ⌜ from ≤ length (now text) ⌝ }
+    ensures { λ r. ⌜ (from ≤ r) × (r ≤ length (now (text .entry))) ⌝ }
+{
+    let mut i = skip_quiet(text, from);
+    while i < text.len() {
+        if text[i] == b'\n' {
+            return i;
+        }
+        i += 1;
+    }
+    i
+}
+
+// Puts the reply to a line and a newline at the front of `out`, and answers how many bytes they take.
+fn reply(line: &[u8], out: &mut [u8]) -> usize
+    requires { ⌜ 434 ≤ length (now out) ⌝ }
+    ensures { λ r. ⌜ r ≤ 434 ⌝ }
+{
+    let count = echo_line(line, out);
+    out[count] = b'\n';
+    count + 1
+}
+
+// How many bytes of `out` are filled after it was written out, which it is where the next reply might not fit.
+fn make_room(out: &[u8], filled: usize) -> Room
+    requires { ⌜ (filled ≤ length (now out)) × (434 ≤ length (now out)) ⌝ }
+    ensures { λ r. ⌜ RoomIn (length (now (out .entry))) r ⌝ }
+{
+    if 434 <= out.len() - filled {
+        return Room::Filled(filled);
+    }
+    if io::write_all(STDOUT_FILENO, &out[..filled]) {
+        Room::Filled(0)
+    } else {
+        Room::Failed
+    }
+}
+
+// Answers a line behind what is filled.
+fn answer(line: &[u8], out: &mut [u8], filled: usize) -> Room
+    requires { ⌜ filled + 434 ≤ length (now out) ⌝ }
+    ensures { λ r. ⌜ RoomIn (length (now (out .exit))) r ⌝ }
+{
+    let count = reply(line, &mut out[filled..]);
+    make_room(out, filled + count)
+}
+
+// Answers every whole line of the text.
+fn answer_lines(text: &[u8], out: &mut [u8]) -> Progress
+    requires { ⌜ 434 ≤ length (now out) ⌝ }
+    ensures { λ r. ⌜ RestIn (length (now (text .entry))) r ⌝ }
+{
+    let mut from = 0;
+    let mut filled = 0;
+    let mut end = line_end(text, 0);
+    while end < text.len() {
+        let Room::Filled(left) = answer(&text[from..end], out, filled) else {
+            return Progress::Failed;
+        };
+        filled = left;
+        from = end + 1;
+        end = line_end(text, from);
+    }
+    if io::write_all(STDOUT_FILENO, &out[..filled]) {
+        Progress::Rest(from)
+    } else {
+        Progress::Failed
+    }
+}
+
+// How much of an unfinished line is kept: one byte over the longest line makes it bad, whatever follows.
+fn worth_keeping(size: usize) -> usize
+    ensures { λ r. ⌜ (r ≤ size) × (r ≤ 433) ⌝ }
+{
+    if size < 433 { size } else { 433 }
+}
+
+// Moves `count` bytes from `from` on to the front.
+fn keep(input: &mut [u8], from: usize, count: usize)
+    requires { ⌜ from + count ≤ length (now input) ⌝ }
+{
+    let mut i = 0;
+    while i < count {
+        input[i] = input[from + i];
+        i += 1;
+    }
+}
+
+// Reads once, behind the bytes that are held: how many there are then.
+fn read_more(input: &mut [u8], held: usize) -> Input
+    requires { ⌜ held ≤ length (now input) ⌝ }
+    ensures { λ r. ⌜ HeldIn (length (now (input .exit))) r ⌝ }
+{
+    let more = &mut input[held..];
+    let got = libc::read(STDIN_FILENO, more);
+    let count = io::count(got, more);
+    if got < 0 {
+        return Input::Failed;
+    }
+    if count == 0 {
+        return Input::Ended;
+    }
+    Input::Held(held + count)
+}
+
+// Answers the whole lines of the first `end` bytes, and keeps the rest.
+fn answer_all(input: &mut [u8], end: usize, out: &mut [u8]) -> Input
+    requires { ⌜ (end ≤ length (now input)) × (434 ≤ length (now out)) ⌝ }
+    ensures { λ r. ⌜ HeldIn 433 r ⌝ }
+{
+    let Progress::Rest(from) = answer_lines(&input[..end], out) else {
+        return Input::Failed;
+    };
+    let count = worth_keeping(end - from);
+    keep(input, from, count);
+    Input::Held(count)
+}
+
+// Answers the last line, if it lacks its newline.
+fn finish(input: &[u8], held: usize, out: &mut [u8])
+    requires { ⌜ (held ≤ length (now input)) × (434 ≤ length (now out)) ⌝ }
+{
+    if 0 < held {
+        let count = reply(&input[..held], out);
+        io::write_all(STDOUT_FILENO, &out[..count]);
+    }
+}
+
+// Reads once, and answers what is whole then; at the end of the input also the last line.
+fn turn(input: &mut [u8], held: usize, out: &mut [u8]) -> Input
+    requires { ⌜ (held ≤ length (now input)) × (434 ≤ length (now out)) ⌝ }
+    ensures { λ r. ⌜ HeldIn 433 r ⌝ }
+{
+    match read_more(input, held) {
+        Input::Held(end) => answer_all(input, end, out),
+        Input::Ended => {
+            finish(input, held, out);
+            Input::Ended
+        }
+        Input::Failed => Input::Failed,
+    }
+}
+
+// A proved loop has to end, and nothing says that the input does: the turns are counted down from a number that no run uses up.
+fn echo_all(input: &mut [u8], out: &mut [u8])
+    requires { ⌜ (433 ≤ length (now input)) × (434 ≤ length (now out)) ⌝ }
+{
+    let mut held = 0;
+    let mut turns = u64::MAX;
+    while 0 < turns {
+        turns -= 1;
+        let Input::Held(count) = turn(input, held, out) else {
+            return;
+        };
+        held = count;
+    }
+}
+
+fn main() {
+    let mut input = io::large_buffer();
+    let mut out = io::large_buffer();
+    echo_all(&mut input, &mut out);
+}

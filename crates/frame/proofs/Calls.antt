@@ -1,0 +1,52 @@
+-- The round trip over the contracts of `read` and `write` themselves: what the one's call leaves, the other's call takes.
+-- `Post` is a contract's claim as the checker reads it: of the arguments, the result, and what the parameters hold at exit.
+-- Assumes nothing.
+use Prim.Native.Nat.{ℕ, _+_, _≤_}
+use mathlib.Core.Path.{_≡_, sym, ap, _∙_}
+use mathlib.Core.List.{List, _++_}
+use borrow.Fn.Kinds.{endedOf}
+use contract.Lifetimes.{Lfts}
+use denote.Ref.{RefT, now}
+use denote.Triple.Clauses.{AtExit}
+use lib.ListN.{length, take, drop}
+use Rattle.bits.specs.Bits.{bitsOf, bytesFor, bytesOf}
+use Rattle.frame.specs.declared.Kind.{Kind}
+use Rattle.frame.specs.declared.Record.{Record}
+use Rattle.frame.specs.declared.Reading.{Reading}
+use Rattle.frame.specs.declared.Verdict.the-variants.{Frame}
+use Rattle.frame.specs.declared.Written.{Written}
+use Rattle.frame.specs.declared.Written.the-variants.{Bits}
+use Rattle.frame.specs.Frame.{readingOf, clean}
+use Rattle.frame.proofs.Frames.{accepted, write-then-read, MadeAgain, read-then-write}
+use Rattle.frame.proofs.read.Kinds as read-kinds
+use Rattle.frame.proofs.read.Reads as read
+use Rattle.frame.proofs.write.Kinds as write-kinds
+use Rattle.frame.proofs.write.Reads as write
+
+abbrev AfterRead : Lfts 1 → Type 0
+AfterRead = AtExit (endedOf 1 read-kinds.ps read-kinds.r)
+
+abbrev AfterWrite : Lfts 1 → Type 0
+AfterWrite = AtExit (endedOf 1 write-kinds.ps write-kinds.r)
+
+module _ (κs λs : Lfts 1) (kind : Kind) (out frame : RefT (List ℕ)) (start count : ℕ) (reading : Reading) (left : AfterWrite κs) (after : AfterRead λs) where
+  -- what `write` made, `read` returns: the record, with 0 at the places that are not used
+  pub made-then-read : (values : Record) → write.Post κs (kind, (values, (out, (start, tt)))) (Bits count) left
+      → now frame ≡ drop start (now (left .1 .1 .0))
+      → read.Post λs (kind, (frame, (count, tt))) reading after
+      → reading ≡ accepted (clean kind (values .place))
+  made-then-read values w here r =
+      r ∙ ap (λ (bytes : List ℕ). readingOf kind bytes count) (here ∙ ap (drop start) (w .1))
+      ∙ write-then-read kind (values .place) (now out) start count (sym (w .0))
+
+  -- what `read` took, `write` makes again where there is room: the same bits, and 0 in the spare bits of the last byte
+  pub taken-then-written : (written : Written) → read.Post λs (kind, (frame, (count, tt))) reading after
+      → reading .verdict ≡ Frame
+      → write.Post κs (kind, (reading .values, (out, (start, tt)))) written left
+      → start + bytesFor count ≤ length (now out)
+      → (written ≡ Bits count)
+      × (now (left .1 .1 .0) ≡ take start (now out) ++ (bytesOf (take count (bitsOf (now frame))) ++ drop (start + bytesFor count) (now out)))
+  taken-then-written written r taken w fit =
+      let found : readingOf kind (now frame) count .verdict ≡ Frame = ap (λ (x : Reading). x .verdict) (sym r) ∙ taken in
+      let again : MadeAgain kind (now frame) count (reading .values .place) = rw r (read-then-write kind (now frame) count found) in
+      (w .0 ∙ again .told (now out) start fit, w .1 ∙ again .made (now out) start fit)

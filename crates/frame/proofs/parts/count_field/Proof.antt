@@ -1,0 +1,24 @@
+-- `frame::parts::count_field` meets its contract.
+-- Assumes nothing.
+use mathlib.Core.Path.{refl}
+use native.Mathlib.Omega.{arith}
+use borrow.Author.Needs.{needs}
+use Rattle.frame.proofs.parts.count_field.Statement.{statement}
+use Rattle.frame.proofs.parts.count_field.Tie as tie
+use Rattle.frame.proofs.parts.count_field.Reads as reads
+use Rattle.frame.proofs.parts.count_field.Lts as lts
+
+enum-told : tie.Need-enum-told
+enum-told c = search needs
+
+enum-told-2 : tie.Need-enum-told-2
+enum-told-2 c = search needs
+
+returns : tie.Need-returns
+returns c = rw (c .enum-told .given .1) (refl, record { some = omega arith; few = omega arith; low = omega arith; plain = refl })
+
+returns-2 : tie.Need-returns-2
+returns-2 c = rw (c .enum-told2 .given .1) (refl, record { some = omega arith; few = omega arith; low = omega arith; plain = refl })
+
+pub count-field-spec : {M : Type 1} → statement M
+count-field-spec = tie.close (tie.spec enum-told enum-told-2 returns returns-2)

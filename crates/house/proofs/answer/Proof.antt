@@ -1,0 +1,48 @@
+-- `house::answer` meets its contract: each arm is the case of the verdict.
+use mathlib.Core.Path.{ap}
+use Rattle.house.specs.Echo.{told}
+use Rattle.house.proofs.Texts.{sent}
+use borrow.Author.Needs.{needs}
+use Rattle.house.proofs.answer.Statement.{statement}
+use Rattle.house.proofs.answer.Tie as tie
+
+enum-told : tie.Need-enum-told
+enum-told c = search needs
+
+remake-requires : tie.Need-remake-requires
+remake-requires c κs = search needs
+
+enum-known-verdict : tie.Need-enum-known-verdict
+enum-known-verdict c = search needs
+
+refuse-requires : tie.Need-refuse-requires
+refuse-requires c κs = search needs
+
+same-length : tie.Need-same-length
+same-length c = search needs
+
+returns : tie.Need-returns
+returns c =
+    let given = c .before .before .before .before .before .before .before .args in
+    sent (ap (told (given .kind) (given .reading .values .place)) (c .before .before .before .before .enum-told .given .1)) (c .before .before .remake .ensures)
+
+same-length-2 : tie.Need-same-length-2
+same-length-2 c = search needs
+
+returns-2 : tie.Need-returns-2
+returns-2 c =
+    let given = c .before .before .before .before .before .before .before .before .args in
+    sent (ap (told (given .kind) (given .reading .values .place)) (c .before .before .before .before .before .verdict .given .1)) (c .before .before .refuse .ensures)
+
+pub answer-spec : {M : Type 1} → statement M
+answer-spec =
+    tie.close
+    (tie.spec
+    enum-told
+    remake-requires
+    enum-known-verdict
+    refuse-requires
+    same-length
+    returns
+    same-length-2
+    returns-2)

@@ -1,0 +1,8 @@
+-- The definitions that the contracts of `house` cite.
+pub mod Hex
+pub mod Tables
+pub mod Kinds
+pub mod Heading
+pub mod Unpacked
+pub mod Echo
+pub mod Sent

@@ -1,0 +1,15 @@
+-- Every sample passes, by computation.
+-- Assumes nothing.
+use lib.Dec.{T}
+use Rattle.bits.specs.Bits.{digits, value, bitsOf, pack, bytesOf}
+use Rattle.frame.specs.Row.{all, present}
+use Rattle.frame.specs.Read.{readRows}
+use Rattle.frame.specs.Write.{lay, vals, emit}
+use Rattle.frame.specs.Shape.{repeated, rowsOf, span, unrolled, spans}
+use Rattle.frame.specs.Table.{define, defineAck, cancel, cancelAck}
+use Rattle.frame.specs.Frame.{rows, head, read, readBytes, asReading, readingOf, write, judgedOf, writtenOf, outputOf}
+use Rattle.samples.specs.Samples.{samples, passes}
+
+pub samples-pass : T (all passes samples)
+unfolding digits value bitsOf pack bytesOf present readRows lay vals emit repeated rowsOf span unrolled spans define defineAck cancel cancelAck rows head read readBytes asReading readingOf write judgedOf writtenOf outputOf passes
+samples-pass = tt

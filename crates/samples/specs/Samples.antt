@@ -1,0 +1,85 @@
+-- The samples of document 01 that are proved, in one table, and what it is that each of them passes.
+-- Assumes nothing.
+use Prim.Native.Nat.{ℕ, _-_}
+use mathlib.Core.Bool.{Bool, true, false, _&&_}
+use mathlib.Core.List.{List, [], _∷_, _++_}
+use lib.Dec.{eqb}
+use lib.ListN.{length, replicate}
+use Rattle.refusal.specs.Number.{numberOf}
+use Rattle.frame.specs.declared.Kind.{Kind}
+use Rattle.frame.specs.declared.Kind.the-variants.{Define, DefineAck, Cancel, CancelAck}
+use Rattle.frame.specs.declared.Verdict.{Verdict}
+use Rattle.frame.specs.declared.Verdict.the-variants as verdict
+use Rattle.frame.specs.declared.Written.{Written}
+use Rattle.frame.specs.declared.Written.the-variants as written
+use Rattle.frame.specs.Shape.{Yes, No}
+use Rattle.frame.specs.Frame.{places, readingOf, writtenOf, outputOf}
+
+pub data Sample : Type 0 where
+  taken : Kind → ℕ → List ℕ → List ℕ → Sample  -- so many bits in these bytes are this record, which goes on with 0; and it is written so
+  refused : Kind → ℕ → List ℕ → ℕ → Sample  -- so many bits in these bytes are refused with this number
+
+-- ---- the table
+-- an identity takes four places: its form, SNA, SSI and extension
+abbrev sna : ℕ → List ℕ
+sna n = 1 ∷ n ∷ 0 ∷ 0 ∷ []
+
+abbrev ssi : ℕ → List ℕ
+ssi n = 2 ∷ 0 ∷ n ∷ 0 ∷ []
+
+-- a list of one identity: its number type, and room for ten
+abbrev one : List ℕ → List ℕ
+one identity = 1 ∷ identity ++ replicate 36 0
+
+abbrev pub samples : List Sample
+samples =
+    -- DEFINE, no call, group SSI 1, no options: 43 bits
+    taken Define 43 (0x50 ∷ 0xE0 ∷ 0x40 ∷ 0x00 ∷ 0x00 ∷ 0x40 ∷ []) (No ∷ 0 ∷ Yes ∷ 0 ∷ one (ssi 1))
+    -- DEFINE-ACK, no call, SSI 1, result 1: 46 bits
+    ∷ taken DefineAck 46 (0x50 ∷ 0xE0 ∷ 0x80 ∷ 0x00 ∷ 0x00 ∷ 0x88 ∷ []) (No ∷ 0 ∷ one (ssi 1) ++ (1 ∷ []))
+    -- CANCEL, call identifier 5, existing SNA 7: 35 bits
+    ∷ taken Cancel 35 (0x51 ∷ 0x80 ∷ 0x02 ∷ 0x80 ∷ 0xE0 ∷ []) (Yes ∷ 5 ∷ replicate 4 0 ++ sna 7)
+    -- CANCEL-ACK, no call, SNA 7, cancelled: 22 bits; with one bit less, and one more
+    ∷ taken CancelAck 22 (0x51 ∷ 0xA0 ∷ 0x38 ∷ []) (No ∷ 0 ∷ sna 7 ++ (0 ∷ []))
+    ∷ refused CancelAck 21 (0x51 ∷ 0xA0 ∷ 0x38 ∷ []) 1
+    ∷ refused CancelAck 23 (0x51 ∷ 0xA0 ∷ 0x38 ∷ []) 2
+    -- no bits; more bits than bytes
+    ∷ refused Define 0 (0x50 ∷ 0xE0 ∷ 0x40 ∷ 0x00 ∷ 0x00 ∷ 0x40 ∷ []) 1
+    ∷ refused Define 49 (0x50 ∷ 0xE0 ∷ 0x40 ∷ 0x00 ∷ 0x00 ∷ 0x40 ∷ []) 1
+    ∷ []
+
+-- ---- what they pass
+abbrev same : List ℕ → List ℕ → Bool
+same [] [] = true
+same [] (y ∷ ys) = false
+same (x ∷ xs) [] = false
+same (x ∷ xs) (y ∷ ys) = eqb x y && same xs ys
+
+-- a record's places, the rest of them 0
+abbrev filled : List ℕ → List ℕ
+filled s = s ++ replicate (places - length s) 0
+
+abbrev accepts : Verdict → Bool
+accepts verdict.Frame = true
+accepts (verdict.Refused n) = false
+
+abbrev refusesWith : ℕ → Verdict → Bool
+refusesWith n verdict.Frame = false
+refusesWith n (verdict.Refused r) = eqb (numberOf r) n
+
+abbrev writes : ℕ → Written → Bool
+writes n (written.Bits m) = eqb m n
+writes n (written.Refused r) = false
+
+-- the reader's answer, and the writer's into that many zero bytes
+unfoldable pub passes : Sample → Bool
+passes (taken kind count bytes s) =
+    let reading = readingOf kind bytes count in
+    let size = length bytes in
+    accepts (reading .verdict)
+    && same (reading .values .place) (filled s)
+    && writes count (writtenOf kind s size 0)
+    && same (outputOf kind s (replicate size 0) 0) bytes
+passes (refused kind count bytes n) =
+    let reading = readingOf kind bytes count in
+    refusesWith n (reading .verdict) && same (reading .values .place) (filled [])
