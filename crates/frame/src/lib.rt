@@ -130,14 +130,12 @@ pub fn read(kind: Kind, frame: &[u8], bits: usize) -> Reading
 pub fn fault(kind: Kind, values: Record) -> Judged
     ensures { λ r. ⌜ r ≡ judgedOf kind (values .place) ⌝ }
 {
-    let place = values.place;
-    writer::judge_record(kind, &place)
+    writer::judge_record(kind, &values.place)
 }
 
 // Writes a record's frame into `out` from the byte `start` on; refusals 4, 5 and 8 leave `out` as it is.
 pub fn write(kind: Kind, values: Record, out: &mut [u8], start: usize) -> Written
     ensures { λ r. ⌜ (r ≡ writtenOf kind (values .place) (length (now (out .entry))) start) × (now (out .exit) ≡ outputOf kind (values .place) (now (out .entry)) start) ⌝ }
 {
-    let place = values.place;
-    writer::write_record(kind, &place, out, start)
+    writer::write_record(kind, &values.place, out, start)
 }

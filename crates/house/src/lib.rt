@@ -1,6 +1,5 @@
 // House text: one frame a line, in upper-case hexadecimal digits.
 use frame::Kind;
-use frame::Reading;
 use frame::Record;
 use frame::Verdict;
 use frame::Written;
@@ -20,6 +19,7 @@ ghost use Rattle.house.specs.Kinds.{kindNumber, kinds};
 ghost use Rattle.house.specs.Heading.{named, headed, headingOf, splitOf};
 ghost use Rattle.house.specs.Unpacked.{Unpacked};
 ghost use Rattle.bits.specs.Bits.{bytesFor};
+ghost use Rattle.frame.specs.Frame.{readingOf};
 ghost use Rattle.house.specs.Echo.{refused, taken, anew, answerTo, echoWithin};
 ghost use Rattle.house.specs.Sent.{Sent};
 
@@ -263,11 +263,12 @@ fn remake(kind: Kind, values: Record, out: &mut [u8]) -> usize
     }
 }
 
-// Answers to what the reader found.
-fn answer(kind: Kind, reading: Reading, out: &mut [u8]) -> usize
+// Answers to what the reader finds in a frame.
+fn answer(kind: Kind, frame: &[u8], bits: usize, out: &mut [u8]) -> usize
     requires { ⌜ 433 ≤ length (now out) ⌝ }
-    ensures { λ r. ⌜ Sent (answerTo kind reading) (now (out .entry)) (now (out .exit)) r ⌝ }
+    ensures { λ r. ⌜ Sent (answerTo kind (readingOf kind (now (frame .entry)) bits)) (now (out .entry)) (now (out .exit)) r ⌝ }
 {
+    let reading = read(kind, frame, bits);
     let verdict = reading.verdict;
     match verdict {
         Verdict::Frame => remake(kind, reading.values, out),
@@ -286,7 +287,7 @@ pub fn echo_line(line: &[u8], out: &mut [u8]) -> usize
     match unpack(line, &mut bytes) {
         Line::Frame(kind, bits) => {
             let end = line.len() / 2;
-            answer(kind, read(kind, &bytes[3..end], bits), out)
+            answer(kind, &bytes[3..end], bits, out)
         }
         Line::Bad => refuse(Refusal::BadLine, out),
     }

@@ -1,10 +1,18 @@
 -- `house::answer` meets its contract: each arm is the case of the verdict.
-use mathlib.Core.Path.{ap}
-use Rattle.house.specs.Echo.{told}
+use mathlib.Core.Path.{ap, sym, _∙_}
+use Rattle.house.specs.Echo.{told, answerTo}
 use Rattle.house.proofs.Texts.{sent}
 use borrow.Author.Needs.{needs}
 use Rattle.house.proofs.answer.Statement.{statement}
 use Rattle.house.proofs.answer.Tie as tie
+use Rattle.house.proofs.answer.Reads as reads
+use Rattle.house.proofs.answer.Lts as lts
+use Rattle.frame.proofs.read.Reads as read-reads
+use Rattle.house.proofs.refuse.Reads as refuse-reads
+use Rattle.house.proofs.remake.Reads as remake-reads
+
+read-requires : tie.Need-read-requires
+read-requires c κs = search needs
 
 enum-told : tie.Need-enum-told
 enum-told c = search needs
@@ -23,21 +31,24 @@ same-length c = search needs
 
 returns : tie.Need-returns
 returns c =
-    let given = c .before .before .before .before .before .before .before .args in
-    sent (ap (told (given .kind) (given .reading .values .place)) (c .before .before .before .before .enum-told .given .1)) (c .before .before .remake .ensures)
+    let kind = c .before .before .before .before .before .before .before .before .before .args .kind in
+    let found = c .before .before .before .before .before .before .read .result in
+    sent (sym (ap (answerTo kind) (c .before .before .before .before .before .before .read .ensures)) ∙ ap (told kind (found .values .place)) (c .before .before .before .before .enum-told .given .1)) (c .before .before .remake .ensures)
 
 same-length-2 : tie.Need-same-length-2
 same-length-2 c = search needs
 
 returns-2 : tie.Need-returns-2
 returns-2 c =
-    let given = c .before .before .before .before .before .before .before .before .args in
-    sent (ap (told (given .kind) (given .reading .values .place)) (c .before .before .before .before .before .verdict .given .1)) (c .before .before .refuse .ensures)
+    let kind = c .before .before .before .before .before .before .before .before .before .before .args .kind in
+    let found = c .before .before .before .before .before .before .before .read .result in
+    sent (sym (ap (answerTo kind) (c .before .before .before .before .before .before .before .read .ensures)) ∙ ap (told kind (found .values .place)) (c .before .before .before .before .before .verdict .given .1)) (c .before .before .refuse .ensures)
 
 pub answer-spec : {M : Type 1} → statement M
 answer-spec =
     tie.close
     (tie.spec
+    read-requires
     enum-told
     remake-requires
     enum-known-verdict

@@ -27,17 +27,14 @@ unpack-requires c κs = search needs
 enum-known-kind : tie.Need-enum-known-kind
 enum-known-kind c = search needs
 
-sub-read : tie.Need-sub-read
-sub-read c = let o = unpacking c in omega (arith, o .holds)
+sub-answer : tie.Need-sub-answer
+sub-answer c = let o = unpacking c in omega (arith, o .holds)
 
-part-read-start : tie.Need-part-read-start
-part-read-start c = let o = unpacking (c .before) in omega (arith, o .holds)
+part-answer-start : tie.Need-part-answer-start
+part-answer-start c = let o = unpacking (c .before) in omega (arith, o .holds)
 
-part-read-end : tie.Need-part-read-end
-part-read-end c = let o = unpacking (c .before) in omega (arith, o .filled .1, still-long _ _ _ _ _ refl o)
-
-read-requires : tie.Need-read-requires
-read-requires c κs = search needs
+part-answer-end : tie.Need-part-answer-end
+part-answer-end c = let o = unpacking (c .before) in omega (arith, o .filled .1, still-long _ _ _ _ _ refl o)
 
 answer-requires : tie.Need-answer-requires
 answer-requires c κs = search needs
@@ -53,11 +50,10 @@ same-length c = search needs
 
 returns-2 : tie.Need-returns-2
 returns-2 c =
-    let o = unpacking (c .before .before .before .before .before .before .before) in
-    let given = c .before .before .before .before .before .before .before .before .before .before .before .before .before .before .before .before .args in
-    let read = c .before .before .before .before .read in
+    let o = unpacking (c .before .before .before .before .before .before) in
+    let given = c .before .before .before .before .before .before .before .before .before .before .before .before .before .before .before .args in
     sent
-    (reply-frame (length (given .out .now)) (given .line .now) (omega arith) _ _ _ (read .result) (sym (o .named)) (frame-bytes _ _ _ _ _ refl o) (read .ensures))
+    (reply-frame (length (given .out .now)) (given .line .now) (omega arith) _ _ _ _ (sym (o .named)) (frame-bytes _ _ _ _ _ refl o) refl)
     (c .before .before .answer .ensures)
 
 same-length-2 : tie.Need-same-length-2
@@ -78,10 +74,9 @@ echo-line-spec =
     slice-aggregate-unpack
     unpack-requires
     enum-known-kind
-    sub-read
-    part-read-start
-    part-read-end
-    read-requires
+    sub-answer
+    part-answer-start
+    part-answer-end
     answer-requires
     enum-told
     refuse-requires
