@@ -2,18 +2,17 @@
 -- Assumes nothing.
 use Prim.Native.Nat.{ℕ, zero, suc, _+_, _*_, _≤_, _<_}
 use mathlib.Core.Path.{_≡_, refl, ap, ap₂, sym, _∙_, subst}
-use mathlib.Core.Bool.{Bool, true, false, cond, _&&_}
+use mathlib.Core.Bool.{Bool, true, false, cond}
 use mathlib.Core.List.{List, [], _∷_, _++_}
 use native.Mathlib.Nat.{add-zero, min-le-left, mul-suc}
-use native.Mathlib.Numerals.{add-one}
 use native.Mathlib.Omega.{arith}
 use native.Mathlib.Decide.{decLt}
 use borrow.Author.Tests.{lt-leb, ne-eqb}
 use lib.Dec.{ltb}
 use lib.ListN.{length, take, getD, length-append, length-take, List·getD-eq-default}
-use lib.Seq.{getD-take, getD-drop, length-take-le}
+use lib.Seq.{getD-take}
 use Rattle.frame.specs.Row.{Row, Condition, is, atLeast, nothingSince, holds, all, present}
-use Rattle.frame.specs.Shape.{number, choice, refuse, identity, No, least, times, item, stride, repeated, rowsOf, span, conditionsOf}
+use Rattle.frame.specs.Shape.{identity, No, least, times, item, stride, repeated, rowsOf, span, conditionsOf}
 use Rattle.frame.specs.declared.Items.{Items}
 use Rattle.frame.specs.declared.Items.the-variants.{Numbers, Letters}
 use Rattle.frame.specs.declared.Shape.{Shape}

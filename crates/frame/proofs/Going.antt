@@ -2,26 +2,23 @@
 -- Assumes nothing.
 use Prim.Native.Nat.{ℕ, zero, suc, _+_, _-_, _*_, _≤_, _<_}
 use mathlib.Core.Path.{_≡_, refl, ap, ap₂, sym, _∙_, subst}
-use mathlib.Core.Bool.{Bool, true, false, cond, not}
+use mathlib.Core.Bool.{Bool, false, cond, not}
 use mathlib.Core.List.{List, [], _∷_, _++_}
 use native.Mathlib.Omega.{arith}
 use borrow.Author.Tests.{lt-ltb, le-ltb, eq-eqb, ne-eqb}
-use lib.Dec.{eqb, ltb}
+use lib.Dec.{eqb}
 use lib.ListN.{length, take, drop, getD, replicate, length-drop, take-append-drop, drop-of-length-le}
-use lib.Seq.{drop-cons, drop-drop, take-take, getD-drop, length-take-le}
+use lib.Seq.{drop-cons, getD-drop, length-take-le}
 use Rattle.refusal.specs.declared.Refusal.{Refusal}
 use Rattle.refusal.specs.declared.Refusal.the-variants.{EndsInside, BitsRemain, WrongKind}
-use Rattle.bits.specs.Bits.{value, bitsOf}
-use Rattle.bits.specs.Field.{fieldAt}
-use Rattle.bits.specs.declared.Taken.the-variants.{Value, Cut}
+use Rattle.bits.specs.Bits.{value}
 use Rattle.frame.specs.declared.Element.{Element}
 use Rattle.frame.specs.declared.Kind.{Kind}
-use Rattle.frame.specs.declared.Reading.{Reading}
 use Rattle.frame.specs.declared.Verdict.the-variants as verdict
 use Rattle.frame.specs.declared.Step.{Step}
 use Rattle.frame.specs.declared.Step.the-variants.{Next, Refused}
 use Rattle.frame.specs.Row.{Row}
-use Rattle.frame.specs.Read.{Answer, frame, refused, readRows}
+use Rattle.frame.specs.Read.{frame, refused, readRows}
 use Rattle.frame.specs.Shape.{rowsOf, span, conditionsOf, unrolled}
 use Rattle.frame.specs.Table.{tableOf, ssType, actionType}
 use Rattle.frame.specs.Frame.{rows, read, readBytes, asReading, readingOf}

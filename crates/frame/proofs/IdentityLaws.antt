@@ -1,18 +1,17 @@
 -- An identity's rows: which are there follows from its form.
 -- Assumes nothing.
-use Prim.Native.Nat.{ℕ, zero, suc, _+_, _-_, _≤_, _<_}
-use mathlib.Core.Path.{_≡_, refl, ap, sym, _∙_, subst}
-use mathlib.Core.Bool.{Bool, true, false}
+use Prim.Native.Nat.{ℕ, _+_, _≤_, _<_}
+use mathlib.Core.Path.{_≡_, sym, _∙_, subst}
+use mathlib.Core.Bool.{true, false}
 use mathlib.Core.List.{List, [], _∷_}
 use mathlib.Core.Logic.{⊎-elim}
 use native.Mathlib.Omega.{arith}
 use borrow.Author.Tests.{lt-leb, le-leb, ne-eqb, eq-eqb}
-use lib.ListN.{length, take, drop, getD}
-use lib.Seq.{getD-take, getD-drop}
-use Rattle.refusal.specs.declared.Refusal.{Refusal}
+use lib.ListN.{length, take, getD}
+use lib.Seq.{getD-take}
 use Rattle.refusal.specs.declared.Refusal.the-variants.{Reserved}
-use Rattle.frame.specs.Row.{Row, Condition, is, atLeast, present}
-use Rattle.frame.specs.Shape.{number, identity}
+use Rattle.frame.specs.Row.{Row, is, atLeast, present}
+use Rattle.frame.specs.Shape.{number}
 use Rattle.frame.specs.Walk.{Clear}
 use Rattle.frame.proofs.Walks.{Walk, goes-then, clear-after, value-before}
 use Rattle.frame.proofs.Absent.{none, more, passes}

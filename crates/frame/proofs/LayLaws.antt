@@ -1,8 +1,8 @@
 -- Writing, row by row: laws over the rows that are laid down.
 -- Assumes nothing.
-use Prim.Native.Nat.{ℕ, zero, suc, _+_, _-_, _*_, _≤_, _<_}
+use Prim.Native.Nat.{ℕ, suc, _+_, _-_, _*_, _≤_, _<_}
 use mathlib.Core.Path.{_≡_, refl, ap, ap₂, sym, _∙_, subst}
-use mathlib.Core.Bool.{Bool, true, false, cond, _&&_}
+use mathlib.Core.Bool.{Bool, true, false, _&&_}
 use mathlib.Core.List.{List, [], _∷_, _++_, tail, append-assoc, append-nil}
 use mathlib.Core.Logic.{_⊎_, inl, inr}
 use native.Mathlib.Nat.{add-zero, add-assoc}
@@ -11,7 +11,7 @@ use native.Mathlib.Omega.{arith}
 use borrow.Author.Tests.{lt-leb, le-leb, lt-ltb, le-ltb}
 use lib.Dec.{leb, ltb}
 use lib.ListN.{length, take, drop, getD, set, length-append, length-set, take-append-drop}
-use lib.Seq.{take-suc, take-suc-set, drop-drop, drop-set-lt, take-set-le, drop-cons, drop-nil, getD-drop, take-at, drop-at, length-take-le, take-take}
+use lib.Seq.{take-suc, take-suc-set, drop-drop, drop-set-lt, take-set-le, drop-nil, getD-drop, take-at, drop-at, length-take-le, take-take}
 use Rattle.bits.specs.Bits.{digits, bitsOf}
 use Rattle.bits.specs.Field.{putAt}
 use Rattle.bits.proofs.Laws.{length-digits, length-bitsOf, length-putAt, put-bits}
@@ -188,17 +188,17 @@ module _ (r : Row) (s : List ℕ) (at p : ℕ) (vs out : List ℕ) (inside : p <
         let d = digits (r .width) (v - r .first) in
         record {
           ends = subst (λ (l : List Laid). Ends l 1 at p vs (set vs p v) out (putAt out at (r .width) (v - r .first)) (Next (at + r .width))) (sym one) (
-          record {
-            on = ap (λ (n : ℕ). at + n) (sym (ap length (append-nil d) ∙ length-digits (r .width) (v - r .first)));
-            few = omega arith;
-            front = rw (add-one p, take-suc-set vs p v inside);
-            before = take-set-le p vs p v (omega arith);
-            stays = drop-set-lt (p + 1) vs p v (omega arith);
-            size = length-set vs p v;
-            over = subst (λ (l : List Bool). Over out (putAt out at (r .width) (v - r .first)) at l) (sym (append-nil d)) (over-put out at (r .width) (v - r .first) w);
-          },
-          rw g,
-        );
+            record {
+              on = ap (λ (n : ℕ). at + n) (sym (ap length (append-nil d) ∙ length-digits (r .width) (v - r .first)));
+              few = omega arith;
+              front = rw (add-one p, take-suc-set vs p v inside);
+              before = take-set-le p vs p v (omega arith);
+              stays = drop-set-lt (p + 1) vs p v (omega arith);
+              size = length-set vs p v;
+              over = subst (λ (l : List Bool). Over out (putAt out at (r .width) (v - r .first)) at l) (sym (append-nil d)) (over-put out at (r .width) (v - r .first) w);
+            },
+            rw g,
+          );
         }
 
     pub lay-bad : goodButGroup (record { row = bare r; val = v }) ≡ false → Lays (r ∷ []) s at p vs vs out out Bad

@@ -1,13 +1,12 @@
 -- The writer's loop over the items of a list: what each item starts from.
 -- Assumes nothing.
 use Prim.Native.Nat.{ℕ, _+_, _*_, _≤_, _<_}
-use mathlib.Core.Path.{_≡_, _∙_}
+use mathlib.Core.Path.{_∙_}
 use mathlib.Core.List.{List}
 use native.Mathlib.Omega.{arith}
 use lib.ListN.{length}
-use Rattle.frame.specs.Row.{Row}
 use Rattle.frame.specs.Shape.{stride, repeated}
-use Rattle.frame.specs.Lay.{Lays, Ready}
+use Rattle.frame.specs.Lay.{Ready}
 use Rattle.frame.specs.declared.Items.{Items}
 use Rattle.frame.proofs.Absent.{length-repeated}
 use Rattle.frame.proofs.LayLaws.{laying, kept}

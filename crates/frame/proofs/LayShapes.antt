@@ -19,7 +19,7 @@ use Rattle.frame.specs.Row.{Row, Condition, is, nothingSince, all, prese
 use Rattle.frame.specs.Shape.{refuse, No, codesOf, rowsOf, span, conditionsOf}
 use Rattle.frame.specs.Write.{Laid, lay, good, goodButGroup, vals, emit}
 use Rattle.frame.specs.Walk.{Clear, sound}
-use Rattle.frame.specs.Lay.{Lies, Ends, Lays, Finds, Puts, toldOf}
+use Rattle.frame.specs.Lay.{Lies, Lays, Finds, Puts, toldOf}
 use Rattle.frame.specs.declared.Shape.{Shape}
 use Rattle.frame.specs.declared.Shape.the-variants.{Number, Choice, Identity, Ending, Missing, Nothing}
 use Rattle.frame.specs.declared.Shape.the-variants as shape
@@ -44,9 +44,6 @@ puts-told rows s at p vs vs′ out out′ x r e f = subst (Puts rows s at p vs v
 
 -- ---- a refusal's row
 module _ (n : Refusal) (c : Condition) (s : List ℕ) (at p : ℕ) (vs out : List ℕ) (inside : p < length vs) (z : Clear vs p) where
-  bar : Row
-  bar = refuse n 1 (c ∷ [])
-
   one : present (take p vs) (c ∷ []) ≡ true → lay (refuse n 1 (c ∷ []) ∷ []) (take p vs) (drop p s) ≡ record { row = refuse n 1 []; val = 0 } ∷ []
   unfolding lay
   one e = rw e

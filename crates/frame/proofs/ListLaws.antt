@@ -2,7 +2,7 @@
 -- Assumes nothing.
 use Prim.Native.Nat.{ℕ, zero, suc, _+_, _-_, _*_, _≤_, _<_}
 use mathlib.Core.Path.{_≡_, refl, ap, ap₂, sym, _∙_, subst}
-use mathlib.Core.Bool.{Bool, true, false}
+use mathlib.Core.Bool.{true, false}
 use mathlib.Core.List.{List, [], _∷_, _++_, append-assoc, append-nil}
 use native.Mathlib.Nat.{add-zero, zero-add, suc-add, mul-suc, mul-zero, mul-le-mul-left}
 use native.Mathlib.Numerals.{add-one}
@@ -11,7 +11,7 @@ use borrow.Author.Tests.{lt-leb, le-leb}
 use lib.ListN.{length, take, getD}
 use lib.Seq.{getD-take}
 use Rattle.refusal.specs.declared.Refusal.the-variants.{Reserved}
-use Rattle.frame.specs.Row.{Row, Condition, atLeast, present}
+use Rattle.frame.specs.Row.{Row, atLeast, present}
 use Rattle.frame.specs.Shape.{choice, codesOf, least, times, item, stride, repeated, rowsOf}
 use Rattle.frame.specs.Walk.{Clear}
 use Rattle.frame.specs.declared.Items.{Items}

@@ -1,6 +1,6 @@
 -- Reading, row by row: laws over the rows that a step goes over.
 -- Assumes nothing.
-use Prim.Native.Nat.{ℕ, zero, suc, _+_, _-_, _*_, _≤_, _<_}
+use Prim.Native.Nat.{ℕ, _+_, _-_, _*_, _≤_, _<_}
 use mathlib.Core.Path.{_≡_, refl, ap, sym, _∙_, subst}
 use mathlib.Core.Bool.{Bool, true, false, cond}
 use mathlib.Core.List.{List, [], _∷_, _++_, append-assoc}
@@ -24,7 +24,7 @@ use Rattle.frame.specs.declared.Field.{Field}
 use Rattle.frame.specs.declared.Step.{Step}
 use Rattle.frame.specs.declared.Step.the-variants.{Next, Refused}
 use Rattle.frame.specs.Row.{Row, Condition, nothing, holds, all, present, there}
-use Rattle.frame.specs.Read.{Answer, refused, Turn, took, stop, turn, next, readRows}
+use Rattle.frame.specs.Read.{refused, took, stop, turn, next, readRows}
 use Rattle.frame.specs.Shape.{row}
 use Rattle.frame.proofs.Tests.{all-append, and-true}
 use Rattle.frame.proofs.Walks.{Walk}

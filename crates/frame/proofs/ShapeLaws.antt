@@ -1,9 +1,9 @@
 -- The rows of an element that is there, shape by shape.
 -- Assumes nothing.
-use Prim.Native.Nat.{ℕ, zero, suc, _+_, _-_, _*_, _^_, _%_, _≤_, _<_}
+use Prim.Native.Nat.{ℕ, suc, _+_, _*_, _^_, _%_, _≤_, _<_}
 use mathlib.Core.Path.{_≡_, refl, ap, sym, _∙_, subst}
 use mathlib.Core.Bool.{Bool, true, false, _&&_}
-use mathlib.Core.List.{List, [], _∷_, _++_}
+use mathlib.Core.List.{List, [], _∷_}
 use native.Mathlib.Nat.{mod-eq-of-lt, one-mul, lt-of-le-of-lt}
 use native.Mathlib.Numerals.{add-one}
 use native.Mathlib.Omega.{arith}
@@ -68,10 +68,6 @@ sound-choice s p w n e t = sound-number (Number w) p w refl (subst (λ (x : Shap
 pub sound-missing : (s : Shape) (p q : ℕ) → s ≡ Missing q → T (sound s p) → q < p
 unfolding sound
 sound-missing s p q e t = ltb→lt q p (subst (λ (x : Shape). T (sound x p)) e t)
-
-pub sound-nothing : (s : Shape) (p o : ℕ) → s ≡ Nothing o → T (sound s p) → o < p
-unfolding sound
-sound-nothing s p o e t = ltb→lt o p (subst (λ (x : Shape). T (sound x p)) e t)
 
 -- every shape has a row
 pub span-some : (s : Shape) → 0 < span s

@@ -1,12 +1,11 @@
 -- Tests joined by "and", and tests over a list.
 -- Assumes nothing.
-use Prim.Native.Nat.{ℕ, zero, suc, _<_}
+use Prim.Native.Nat.{ℕ}
 use mathlib.Core.Path.{_≡_, refl}
 use mathlib.Core.Bool.{Bool, true, false, _&&_}
 use mathlib.Core.List.{List, [], _∷_, _++_}
 use native.Mathlib.Omega.{arith}
 use lib.Dec.{T}
-use lib.ListN.{length, getD}
 use Rattle.frame.specs.Row.{all}
 
 pub left : (a b : Bool) → T (a && b) → T a
@@ -20,12 +19,6 @@ right false b t = absurd t
 pub both : (a b : Bool) → T a → T b → T (a && b)
 both true b t u = u
 both false b t u = t
-
--- a test that a whole list passes, each of the list passes
-pub all-at : {A : Type 0} (p : A → Bool) (l : List A) (d : A) → T (all p l) → (k : ℕ) → k < length l → T (p (getD l k d))
-all-at p [] d t k h = absurd (omega arith)
-all-at p (x ∷ l) d t zero h = left (p x) (all p l) t
-all-at p (x ∷ l) d t (suc k) h = all-at p l d (right (p x) (all p l) t) k (omega arith)
 
 pub and-false : (t : Bool) → t && false ≡ false
 and-false true = refl

@@ -1,9 +1,9 @@
 -- The writer's loop over a table's elements: what is laid so far, and what is left.
 -- Assumes nothing.
-use Prim.Native.Nat.{ℕ, zero, suc, _+_, _*_, _≤_, _<_}
+use Prim.Native.Nat.{ℕ, zero, suc, _+_, _≤_, _<_}
 use mathlib.Core.Path.{_≡_, refl, ap, ap₂, sym, _∙_, subst}
-use mathlib.Core.Bool.{Bool, true, false, not, _&&_, _||_}
-use mathlib.Core.List.{List, [], _∷_, _++_, append-assoc, append-nil}
+use mathlib.Core.Bool.{Bool, true, false, _&&_}
+use mathlib.Core.List.{List, [], _++_, append-assoc, append-nil}
 use native.Mathlib.Nat.{zero-add}
 use native.Mathlib.Omega.{arith}
 use lib.ListN.{length, take, drop, getD, replicate, drop-of-length-le}
@@ -21,12 +21,12 @@ use Rattle.frame.specs.Table.{tableOf}
 use Rattle.frame.specs.Frame.{rows, laid}
 use Rattle.frame.specs.Write.{Laid, lay, good, goodButGroup, vals, emit}
 use Rattle.frame.specs.Walk.{Clear, none}
-use Rattle.frame.specs.Lay.{Over, Lies, Ends, Finds, Puts, Ready, Walks}
+use Rattle.frame.specs.Lay.{Over, Lies, Puts, Ready, Walks}
 use Rattle.frame.proofs.Tests.{and-true, and-false, all-append, all-weaker}
 use Rattle.frame.proofs.Absent.{length-shape}
 use Rattle.frame.proofs.Walks.{clear-later}
 use Rattle.frame.proofs.LayLaws.{lay-append, lies-none, lies-join}
-use Rattle.frame.proofs.TableLaws.{Placed, placed-none, placed-more, placed-room, first}
+use Rattle.frame.proofs.TableLaws.{Placed, placed-none, placed-more, first}
 
 -- what has a code has one or is the missing group's
 pub good-coded : (l : List Laid) → all good l ≡ true → all goodButGroup l ≡ true

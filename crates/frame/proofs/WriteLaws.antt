@@ -3,30 +3,29 @@
 use Prim.Native.Nat.{ℕ, zero, suc, _+_, _-_, _*_, _%_, _^_, _≤_, _<_}
 use mathlib.Core.Path.{_≡_, refl, ap, ap₂, sym, _∙_, subst}
 use mathlib.Core.Bool.{Bool, true, false, cond, _&&_}
-use mathlib.Core.List.{List, [], _∷_, _++_, append-assoc, append-nil}
+use mathlib.Core.List.{List, [], _++_, append-nil}
 use native.Mathlib.Nat.{zero-add, zero-mul}
 use native.Mathlib.Omega.{arith}
 use borrow.Author.Tests.{le-leb, lt-leb}
 use borrow.Rule.Slice.PartMut.{putMid, midOf, postOf}
 use lib.Dec.{T, leb}
-use lib.ListN.{length, take, drop, getD, replicate, length-append, length-drop, length-replicate, drop-of-length-le}
+use lib.ListN.{length, take, drop, replicate, length-append, length-drop, length-replicate, drop-of-length-le}
 use lib.Seq.{take-at, drop-at, drop-drop, take-all, getD-drop}
 use Rattle.refusal.specs.declared.Refusal.{Refusal}
 use Rattle.refusal.specs.declared.Refusal.the-variants.{Reserved, NoGroup, NoSpace}
 use Rattle.bits.specs.Bits.{digits, value, bitsOf, bytesFor, spare, bytesOf, Bytes}
 use Rattle.bits.specs.Field.{putAt}
-use Rattle.bits.proofs.Laws.{length-digits, digits-value, length-bitsOf, bitsOf-drop, bits-bytes, bytes-bits, bytesOf-append, bytesOf-below, length-bytesOf, put-inside}
+use Rattle.bits.proofs.Laws.{length-digits, digits-value, bitsOf-drop, bits-bytes, bytes-bits, bytesOf-append, bytesOf-below, put-inside}
 use Rattle.frame.specs.declared.Kind.{Kind}
 use Rattle.frame.specs.declared.Judged.{Judged}
 use Rattle.frame.specs.declared.Judged.the-variants as judged
 use Rattle.frame.specs.declared.Walked.{Walked}
 use Rattle.frame.specs.declared.Walked.the-variants as walked
-use Rattle.frame.specs.declared.Written.{Written}
 use Rattle.frame.specs.declared.Written.the-variants as written
 use Rattle.frame.specs.Row.{all}
-use Rattle.frame.specs.Write.{Laid, good, goodButGroup, emit}
+use Rattle.frame.specs.Write.{good, goodButGroup, emit}
 use Rattle.frame.specs.Table.{ssType, actionType}
-use Rattle.frame.specs.Frame.{head, laid, valid, write, judgedOf, writtenIf, writtenOf, outputIf, outputOf}
+use Rattle.frame.specs.Frame.{head, laid, valid, write, judgedOf, writtenOf, outputOf}
 use Rattle.frame.specs.Lay.{Over, Walks}
 use Rattle.frame.specs.Whole.{judgedBy, Count, Counts, Bits, Frames}
 use Rattle.frame.proofs.LayLaws.{over-put, over-join}
@@ -93,12 +92,6 @@ digits-zero w = ap₂ digits (sym (length-replicate w false)) (sym (value-zero w
 -- ---- the bytes: those of the frame, and those after it as they were
 module _ (bits : List Bool) (out out₁ out₂ : List ℕ) (n : ℕ) (over : Over out out₁ 0 bits) (size : n ≡ length bits) (room : bytesFor n ≤ length out)
     (last : out₂ ≡ putAt out₁ n (8 * bytesFor n - n) 0) (bounded : Bytes out) where
-  m : ℕ
-  m = bytesFor n
-
-  zeros : List Bool
-  zeros = replicate (8 * bytesFor n - n) false
-
   first : bitsOf out₁ ≡ bits ++ drop n (bitsOf out)
   first =
       over .bits (omega (arith, zero-add (length bits)))
@@ -155,8 +148,7 @@ module _ (kind : Kind) (s out : List ℕ) (start n : ℕ) (v : judgedOf kind s �
   written-part l h k ys j e =
       let told : writtenOf kind s (length out) start ≡ written.Bits n = answered ∙ rw (le-leb start (length out) l, le-leb (bytesFor n) (length out - start) h) in
       let nothing : postOf start k out ≡ [] = drop-of-length-le (drop start out) {i = k} (omega (arith, length-drop start out)) in
-      let all-of : midOf start k out ≡ drop start out = take-all k (drop start out) (omega (arith, length-drop start out)) in
-      (
+      let all-of : midOf start k out ≡ drop start out = take-all k (drop start out) (omega (arith, length-drop start out)) in (
         sym told,
         ap₂ (λ (a b : List ℕ). take start out ++ (a ++ b)) (e ∙ ap (λ (a : List ℕ). bytesOf (write kind s) ++ drop (bytesFor n) a) all-of) nothing
             ∙ ap (λ (a : List ℕ). take start out ++ a) (append-nil (bytesOf (write kind s) ++ drop (bytesFor n) (drop start out)) ∙ ap (λ (a : List ℕ). bytesOf (write kind s) ++ a) (drop-drop (bytesFor n) start out))
@@ -181,11 +173,6 @@ pub frame-over : (kind : Kind) (s out out′ : List ℕ) (r : Walked) → judged
 frame-over kind s out out′ (walked.Bits n) v f = f .bits
 frame-over kind s out out′ walked.Reserved v f = let d = f .counts .judges ∙ v in let z : _≡_ {A = ℕ} 0 1 = cc in absurd (omega arith)
 frame-over kind s out out′ walked.NoGroup v f = let d = f .counts .judges ∙ v in let z : _≡_ {A = ℕ} 0 1 = cc in absurd (omega arith)
-
-pub frame-size : (kind : Kind) (s out out′ : List ℕ) (r : Walked) → Frames kind s out out′ r → length out′ ≡ length out
-frame-size kind s out out′ (walked.Bits n) f = f .bits .size
-frame-size kind s out out′ walked.Reserved f = f .bits
-frame-size kind s out out′ walked.NoGroup f = f .bits
 
 pub counted : (kind : Kind) (s : List ℕ) (r : Walked) (n : ℕ) → r ≡ walked.Bits n → Counts kind s r → Count kind s (walked.Bits n)
 counted kind s r n e f = subst (λ (x : Walked). Counts kind s x) e f .count

@@ -1,11 +1,10 @@
 -- A frame of a kind, in bits and in lent bytes: what the reader and the writer answer for any input.
 -- Assumes nothing.
 use Prim.Native.Nat.{ℕ, _+_, _-_, _*_}
-use mathlib.Core.Bool.{Bool, true, false, cond, not, _&&_}
+use mathlib.Core.Bool.{Bool, cond, not, _&&_}
 use mathlib.Core.List.{List, [], _++_}
 use lib.Dec.{leb, ltb, eqb}
 use lib.ListN.{length, take, drop, replicate}
-use Rattle.refusal.specs.declared.Refusal.{Refusal}
 use Rattle.refusal.specs.declared.Refusal.the-variants.{EndsInside, WrongKind, Reserved, NoGroup, NoSpace}
 use Rattle.bits.specs.Bits.{digits, value, bitsOf, bytesFor, bytesOf}
 use Rattle.frame.specs.declared.Kind.{Kind}

@@ -1,4 +1,4 @@
--- Reading, part way: what the reader's parts promise of the rows that they go over.
+-- The walk over rows, part way: what the reader's parts promise, and what both the reader and the writer ask of a table.
 -- Assumes nothing.
 use Prim.Native.Nat.{ℕ, _+_, _-_, _^_, _≤_, _<_}
 use mathlib.Core.Path.{_≡_}
@@ -18,7 +18,7 @@ use Rattle.frame.specs.declared.Element.{Element}
 use Rattle.frame.specs.declared.Shape.{Shape}
 use Rattle.frame.specs.declared.Shape.the-variants.{Number, Choice, Identity, Ending, Missing, Nothing}
 use Rattle.frame.specs.declared.Shape.the-variants as shape
-use Rattle.frame.specs.Row.{Row, Condition, present}
+use Rattle.frame.specs.Row.{Row, Condition}
 use Rattle.frame.specs.Read.{Answer, refused, readRows}
 use Rattle.frame.specs.Shape.{row, span}
 

@@ -81,13 +81,7 @@ fn lay_field(
 }
 
 // The extension, where the form has one.
-fn lay_extension(
-    values: &[u32],
-    clean: &mut [u32],
-    out: &mut [u8],
-    at: usize,
-    place: usize,
-) -> Put
+fn lay_extension(values: &[u32], clean: &mut [u32], out: &mut [u8], at: usize, place: usize) -> Put
     requires { ⌜ Ready (now values) (now clean) at (place + 3) 1 ⌝ }
     ensures { λ r. ⌜ Lays (drop 3 (identity [] place)) (now (values .entry)) at (place + 3) (now (clean .entry)) (now (clean .exit)) (now (out .entry)) (now (out .exit)) r ⌝ }
 {

@@ -5,8 +5,6 @@ use native.Mathlib.Omega.{arith}
 use borrow.Author.Needs.{needs}
 use Rattle.frame.proofs.parts.count_field.Statement.{statement}
 use Rattle.frame.proofs.parts.count_field.Tie as tie
-use Rattle.frame.proofs.parts.count_field.Reads as reads
-use Rattle.frame.proofs.parts.count_field.Lts as lts
 
 enum-told : tie.Need-enum-told
 enum-told c = search needs

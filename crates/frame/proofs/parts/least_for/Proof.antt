@@ -4,8 +4,6 @@ use borrow.Author.Tests.{lt-ltb, le-ltb}
 use borrow.Author.Needs.{needs}
 use Rattle.frame.proofs.parts.least_for.Statement.{statement}
 use Rattle.frame.proofs.parts.least_for.Tie as tie
-use Rattle.frame.proofs.parts.least_for.Reads as reads
-use Rattle.frame.proofs.parts.least_for.Lts as lts
 
 enum-told : tie.Need-enum-told
 enum-told c = search needs

@@ -1,18 +1,15 @@
 -- `frame::parts::nothing_between` meets its contract. The loop's invariant: what is left decides.
 -- Assumes nothing.
-use Prim.Native.Nat.{_-_, _≤_}
-use mathlib.Core.Path.{_≡_, refl, sym, ap, _∙_}
-use native.Mathlib.Omega.{arith}
+use Prim.Native.Nat.{_-_}
+use mathlib.Core.Path.{_≡_, refl, sym, _∙_}
 use borrow.Author.Tests.{ne-eqb, eq-eqb}
 use lib.Dec.{eqb}
-use lib.ListN.{length, take, drop}
+use lib.ListN.{take, drop}
 use Rattle.frame.specs.Row.{all}
 use Rattle.frame.proofs.ShapeLaws.{nothing-next, nothing-end}
 use borrow.Author.Needs.{needs}
 use Rattle.frame.proofs.parts.nothing_between.Statement.{statement}
 use Rattle.frame.proofs.parts.nothing_between.Tie as tie
-use Rattle.frame.proofs.parts.nothing_between.Reads as reads
-use Rattle.frame.proofs.parts.nothing_between.Lts as lts
 
 abbrev Inv-loop : tie.InvT-loop
 Inv-loop values from to i₀ i = all (λ v. eqb v 0) (drop i (take to values)) ≡ all (λ v. eqb v 0) (drop from (take to values))

@@ -6,8 +6,6 @@ use Rattle.frame.proofs.ShapeLaws.{shifted, power-small}
 use borrow.Author.Needs.{needs}
 use Rattle.frame.proofs.parts.number.Statement.{statement}
 use Rattle.frame.proofs.parts.number.Tie as tie
-use Rattle.frame.proofs.parts.number.Reads as reads
-use Rattle.frame.proofs.parts.number.Lts as lts
 
 cast-t2 : tie.Need-cast-t2
 cast-t2 c = search needs

@@ -1,18 +1,11 @@
 -- `frame::parts::there` meets its contract.
 -- Assumes nothing.
-use mathlib.Core.Path.{_≡_, refl, sym, ap, subst}
-use Prim.Native.Nat.{_<_}
 use native.Mathlib.Omega.{arith}
-use lib.ListN.{length}
-use lib.Dec.{T, ltb→lt}
 use Rattle.frame.specs.Row.{present}
 use Rattle.frame.proofs.ShapeLaws.{looks-is, present-is}
 use borrow.Author.Needs.{needs}
 use Rattle.frame.proofs.parts.there.Statement.{statement}
 use Rattle.frame.proofs.parts.there.Tie as tie
-use Rattle.frame.proofs.parts.there.Reads as reads
-use Rattle.frame.proofs.parts.there.Lts as lts
-use Rattle.frame.proofs.parts.wide.Reads as wide-reads
 
 enum-told : tie.Need-enum-told
 enum-told c = search needs

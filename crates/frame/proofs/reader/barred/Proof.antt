@@ -1,12 +1,8 @@
 -- `frame::reader::barred` meets its contract.
 -- Assumes nothing.
-use mathlib.Core.Path.{ap}
-use native.Mathlib.Omega.{arith}
 use borrow.Author.Needs.{needs}
 use Rattle.frame.proofs.reader.barred.Statement.{statement}
 use Rattle.frame.proofs.reader.barred.Tie as tie
-use Rattle.frame.proofs.reader.barred.Reads as reads
-use Rattle.frame.proofs.reader.barred.Lts as lts
 
 sub-before : tie.Need-sub-before
 sub-before c = search needs

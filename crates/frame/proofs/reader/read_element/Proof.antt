@@ -2,7 +2,7 @@
 -- Assumes nothing.
 use mathlib.Core.Path.{sym, _∙_}
 use native.Mathlib.Omega.{arith}
-use Rattle.frame.specs.Shape.{rowsOf, conditionsOf}
+use Rattle.frame.specs.Shape.{conditionsOf}
 use Rattle.frame.proofs.Absent.{present-when, shut-element, passes, length-shape}
 use Rattle.frame.specs.Walk.{whole}
 use Rattle.frame.proofs.ReadLaws.{reading}
@@ -10,10 +10,6 @@ use Rattle.frame.proofs.ShapeLaws.{shape-under}
 use borrow.Author.Needs.{needs}
 use Rattle.frame.proofs.reader.read_element.Statement.{statement}
 use Rattle.frame.proofs.reader.read_element.Tie as tie
-use Rattle.frame.proofs.reader.read_element.Reads as reads
-use Rattle.frame.proofs.reader.read_element.Lts as lts
-use Rattle.frame.proofs.reader.read_shape.Reads as read-shape-reads
-use Rattle.frame.proofs.parts.there.Reads as there-reads
 
 there-requires : tie.Need-there-requires
 there-requires c κs = search needs

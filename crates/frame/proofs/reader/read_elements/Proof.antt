@@ -1,29 +1,17 @@
 -- `frame::reader::read_elements` meets its contract. The loop's invariant: the rest, read from here, is what the whole is read as.
 -- Assumes nothing.
-use Rattle.frame.proofs.TableLaws.{Held, table-held, placed-looks, placed-sound, placed-room}
-use Prim.Native.Nat.{ℕ, _+_, _-_, _≤_, _<_}
-use mathlib.Core.Path.{_≡_, refl, sym, ap, subst, _∙_}
-use mathlib.Core.List.{List}
+use Rattle.frame.proofs.TableLaws.{table-held, placed-looks, placed-sound, placed-room}
+use Prim.Native.Nat.{_-_, _<_}
+use mathlib.Core.Path.{sym, ap, _∙_}
 use native.Mathlib.Omega.{arith}
-use lib.Dec.{leb→le}
-use lib.ListN.{length, take, getD}
-use lib.Seq.{getD-take}
-use Rattle.frame.specs.declared.Element.{Element}
+use lib.ListN.{length, take}
 use Rattle.frame.specs.Frame.{asReading, rows}
-use Rattle.frame.specs.Table.{tableOf}
-use Rattle.frame.specs.Walk.{whole, none}
+use Rattle.frame.specs.Walk.{whole}
 use Rattle.frame.proofs.ReadLaws.{whole-length}
 use Rattle.frame.proofs.Going.{Going, going-none, going-more, going-stop, going-over, going-end}
 use borrow.Author.Needs.{needs}
 use Rattle.frame.proofs.reader.read_elements.Statement.{statement}
 use Rattle.frame.proofs.reader.read_elements.Tie as tie
-use Rattle.frame.proofs.reader.read_elements.Reads as reads
-use Rattle.frame.proofs.reader.read_elements.Lts as lts
-use Rattle.frame.proofs.reader.read_element.Reads as read-element-reads
-use Rattle.frame.proofs.reader.refused.Reads as refused-reads
-use Rattle.frame.proofs.table.count_of.Reads as count-of-reads
-use Rattle.frame.proofs.table.span_of.Reads as span-of-reads
-use Rattle.frame.proofs.table.table_of.Reads as table-of-reads
 
 abbrev Inv-loop : tie.InvT-loop
 Inv-loop frame bits from table count values₀ at₀ place₀ k₀ values at place k = Going (take count table) (whole frame bits) from values at place k

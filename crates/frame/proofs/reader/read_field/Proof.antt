@@ -1,19 +1,12 @@
 -- `frame::reader::read_field` meets its contract: what the field holds is the row's turn.
 -- Assumes nothing.
-use mathlib.Core.Path.{_≡_, sym, ap, _∙_, subst}
-use Prim.Native.Nat.{ℕ, _+_, _<_, _≤_}
+use mathlib.Core.Path.{sym, _∙_}
 use native.Mathlib.Omega.{arith}
 use borrow.Author.Needs.{needs}
-use borrow.Author.Tests.{lt-ltb, le-ltb}
-use Rattle.bits.specs.declared.Taken.{Taken}
-use Rattle.frame.specs.Read.{turn, took, stop}
-use Rattle.frame.specs.Walk.{rowFor}
+use Rattle.frame.specs.Read.{turn}
 use Rattle.frame.proofs.ReadLaws.{field-end, field-good, field-bad, field-short}
 use Rattle.frame.proofs.reader.read_field.Statement.{statement}
 use Rattle.frame.proofs.reader.read_field.Tie as tie
-use Rattle.frame.proofs.reader.read_field.Reads as reads
-use Rattle.frame.proofs.reader.read_field.Lts as lts
-use Rattle.bits.proofs.field_from.Reads as field-from-reads
 
 field-from-requires : tie.Need-field-from-requires
 field-from-requires c κs = search needs

@@ -3,16 +3,11 @@
 use Rattle.frame.proofs.Walks.{clear-after}
 use Rattle.frame.proofs.ReadLaws.{reading}
 use Rattle.frame.specs.Walk.{whole}
-use mathlib.Core.Path.{_≡_, sym}
 use native.Mathlib.Omega.{arith}
 use Rattle.frame.proofs.IdentityLaws.{form-sna, form-none, form-stop, form-ssi}
 use borrow.Author.Needs.{needs}
 use Rattle.frame.proofs.reader.read_form.Statement.{statement}
 use Rattle.frame.proofs.reader.read_form.Tie as tie
-use Rattle.frame.proofs.reader.read_form.Reads as reads
-use Rattle.frame.proofs.reader.read_form.Lts as lts
-use Rattle.frame.proofs.reader.read_extension.Reads as read-extension-reads
-use Rattle.frame.proofs.reader.read_field.Reads as read-field-reads
 
 mul-if1 : tie.Need-mul-if1
 mul-if1 c = search needs

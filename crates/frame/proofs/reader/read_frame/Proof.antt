@@ -1,18 +1,12 @@
 -- `frame::reader::read_frame` meets its contract: the bit count against the lent bits, the head, the elements.
 -- Assumes nothing.
-use mathlib.Core.Path.{sym, _∙_}
+use mathlib.Core.Path.{_∙_}
 use native.Mathlib.Omega.{arith}
 use Rattle.frame.specs.Frame.{asReading}
-use Rattle.frame.specs.Read.{readRows}
 use Rattle.frame.proofs.Going.{reading-lent, reading-on}
 use borrow.Author.Needs.{needs}
 use Rattle.frame.proofs.reader.read_frame.Statement.{statement}
 use Rattle.frame.proofs.reader.read_frame.Tie as tie
-use Rattle.frame.proofs.reader.read_frame.Reads as reads
-use Rattle.frame.proofs.reader.read_frame.Lts as lts
-use Rattle.frame.proofs.reader.read_elements.Reads as read-elements-reads
-use Rattle.frame.proofs.reader.read_head.Reads as read-head-reads
-use Rattle.frame.proofs.reader.refused.Reads as refused-reads
 
 add-if1 : tie.Need-add-if1
 add-if1 c = search needs

@@ -1,18 +1,13 @@
 -- `frame::reader::read_head` meets its contract: a cut element first, then SS-Type, then action type.
 -- Assumes nothing.
-use mathlib.Core.Path.{_≡_, sym, _∙_}
+use mathlib.Core.Path.{sym, _∙_}
 use native.Mathlib.Omega.{arith}
 use Rattle.bits.specs.declared.Taken.the-variants.{Value, Cut}
-use Rattle.frame.specs.Read.{refused}
 use Rattle.frame.proofs.ReadLaws.{seen}
 use Rattle.frame.proofs.Going.{head-cut, head-short, head-type, head-action, head-good}
 use borrow.Author.Needs.{needs}
 use Rattle.frame.proofs.reader.read_head.Statement.{statement}
 use Rattle.frame.proofs.reader.read_head.Tie as tie
-use Rattle.frame.proofs.reader.read_head.Reads as reads
-use Rattle.frame.proofs.reader.read_head.Lts as lts
-use Rattle.bits.proofs.field_from.Reads as field-from-reads
-use Rattle.frame.proofs.table.action_type.Reads as action-type-reads
 
 field-from-requires : tie.Need-field-from-requires
 field-from-requires c κs = search needs

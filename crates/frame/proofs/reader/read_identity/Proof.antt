@@ -3,18 +3,10 @@
 use Rattle.frame.proofs.Walks.{goes-then, goes-stop, clear-after}
 use Rattle.frame.proofs.ReadLaws.{reading}
 use Rattle.frame.specs.Walk.{whole}
-use mathlib.Core.Path.{subst}
-use mathlib.Core.List.{[], _∷_}
 use native.Mathlib.Omega.{arith}
-use Rattle.frame.specs.declared.Step.{Step}
-use Rattle.frame.specs.Walk.{Reads}
 use borrow.Author.Needs.{needs}
 use Rattle.frame.proofs.reader.read_identity.Statement.{statement}
 use Rattle.frame.proofs.reader.read_identity.Tie as tie
-use Rattle.frame.proofs.reader.read_identity.Reads as reads
-use Rattle.frame.proofs.reader.read_identity.Lts as lts
-use Rattle.frame.proofs.reader.read_field.Reads as read-field-reads
-use Rattle.frame.proofs.reader.read_form.Reads as read-form-reads
 
 read-field-requires : tie.Need-read-field-requires
 read-field-requires c κs = search needs

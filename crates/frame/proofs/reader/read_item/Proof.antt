@@ -6,10 +6,6 @@ use Rattle.frame.specs.Shape.{stride}
 use borrow.Author.Needs.{needs}
 use Rattle.frame.proofs.reader.read_item.Statement.{statement}
 use Rattle.frame.proofs.reader.read_item.Tie as tie
-use Rattle.frame.proofs.reader.read_item.Reads as reads
-use Rattle.frame.proofs.reader.read_item.Lts as lts
-use Rattle.frame.proofs.reader.read_field.Reads as read-field-reads
-use Rattle.frame.proofs.reader.read_identity.Reads as read-identity-reads
 
 enum-told : tie.Need-enum-told
 enum-told c = search needs

@@ -1,21 +1,15 @@
 -- `frame::reader::read_items` meets its contract. The loop's invariant: i items are read, and the next begins at `place`.
 -- Assumes nothing.
 use Rattle.frame.proofs.ReadLaws.{reading}
-use Prim.Native.Nat.{_+_, _-_, _*_, _≤_}
-use mathlib.Core.Path.{_≡_, sym, ap, subst, _∙_}
+use Prim.Native.Nat.{_-_, _≤_}
+use mathlib.Core.Path.{_≡_, _∙_}
 use native.Mathlib.Omega.{arith}
-use lib.ListN.{length}
-use Rattle.frame.specs.Shape.{stride, times, repeated}
-use Rattle.frame.specs.Walk.{whole, Reads}
+use Rattle.frame.specs.Shape.{times}
+use Rattle.frame.specs.Walk.{whole}
 use Rattle.frame.proofs.ListLaws.{Listing, listing-none, listing-room, listing-more, listing-stop, times-most}
 use borrow.Author.Needs.{needs}
 use Rattle.frame.proofs.reader.read_items.Statement.{statement}
 use Rattle.frame.proofs.reader.read_items.Tie as tie
-use Rattle.frame.proofs.reader.read_items.Reads as reads
-use Rattle.frame.proofs.reader.read_items.Lts as lts
-use Rattle.frame.proofs.reader.read_listed.Reads as read-listed-reads
-use Rattle.frame.proofs.parts.stride_of.Reads as stride-of-reads
-use Rattle.frame.proofs.parts.times_of.Reads as times-of-reads
 
 abbrev Inv-loop : tie.InvT-loop
 Inv-loop frame bits from values₀ count items many each place₀ at₀ i₀ values place at i = Listing (reading (whole frame bits)) items from count values₀ values at place i × (i ≤ many)

@@ -8,11 +8,6 @@ use Rattle.frame.proofs.ListLaws.{list-on, list-stop}
 use borrow.Author.Needs.{needs}
 use Rattle.frame.proofs.reader.read_list.Statement.{statement}
 use Rattle.frame.proofs.reader.read_list.Tie as tie
-use Rattle.frame.proofs.reader.read_list.Reads as reads
-use Rattle.frame.proofs.reader.read_list.Lts as lts
-use Rattle.frame.proofs.parts.count_field.Reads as count-field-reads
-use Rattle.frame.proofs.reader.read_field.Reads as read-field-reads
-use Rattle.frame.proofs.reader.read_items.Reads as read-items-reads
 
 count-field-requires : tie.Need-count-field-requires
 count-field-requires c κs = search needs

@@ -2,16 +2,11 @@
 -- Assumes nothing.
 use Rattle.frame.proofs.ReadLaws.{reading}
 use Rattle.frame.specs.Walk.{whole}
-use mathlib.Core.Path.{sym, subst}
 use native.Mathlib.Omega.{arith}
 use Rattle.frame.proofs.ListLaws.{item-on, item-off}
 use borrow.Author.Needs.{needs}
 use Rattle.frame.proofs.reader.read_listed.Statement.{statement}
 use Rattle.frame.proofs.reader.read_listed.Tie as tie
-use Rattle.frame.proofs.reader.read_listed.Reads as reads
-use Rattle.frame.proofs.reader.read_listed.Lts as lts
-use Rattle.frame.proofs.parts.least_for.Reads as least-for-reads
-use Rattle.frame.proofs.reader.read_item.Reads as read-item-reads
 
 least-for-requires : tie.Need-least-for-requires
 least-for-requires c κs = search needs

@@ -1,25 +1,14 @@
 -- `frame::reader::read_shape` meets its contract, shape by shape.
 -- Assumes nothing.
-use mathlib.Core.Path.{refl, ap, sym, _∙_}
-use mathlib.Core.List.{[]}
+use mathlib.Core.Path.{refl, ap}
 use native.Mathlib.Omega.{arith}
 use Rattle.frame.specs.Shape.{span}
 use Rattle.frame.specs.Walk.{whole}
 use Rattle.frame.proofs.ReadLaws.{reading}
-use Rattle.frame.proofs.ShapeLaws.{sound-number, sound-choice, sound-missing, sound-nothing, list-room, shape-number, shape-choice, shape-ending, shape-identity, shape-list, shape-missing, shape-nothing, span-some}
+use Rattle.frame.proofs.ShapeLaws.{sound-number, sound-choice, sound-missing, list-room, shape-number, shape-choice, shape-ending, shape-identity, shape-list, shape-missing, shape-nothing, span-some}
 use borrow.Author.Needs.{needs}
 use Rattle.frame.proofs.reader.read_shape.Statement.{statement}
 use Rattle.frame.proofs.reader.read_shape.Tie as tie
-use Rattle.frame.proofs.reader.read_shape.Reads as reads
-use Rattle.frame.proofs.reader.read_shape.Lts as lts
-use Rattle.frame.proofs.reader.barred.Reads as barred-reads
-use Rattle.frame.proofs.parts.choice.Reads as choice-reads
-use Rattle.frame.proofs.parts.nothing_between.Reads as nothing-between-reads
-use Rattle.frame.proofs.parts.number.Reads as number-reads
-use Rattle.frame.proofs.reader.read_field.Reads as read-field-reads
-use Rattle.frame.proofs.reader.read_identity.Reads as read-identity-reads
-use Rattle.frame.proofs.reader.read_list.Reads as read-list-reads
-use Rattle.frame.proofs.parts.wide.Reads as wide-reads
 
 enum-known-shape : tie.Need-enum-known-shape
 enum-known-shape c = search needs

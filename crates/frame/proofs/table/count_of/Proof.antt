@@ -5,8 +5,6 @@ use Rattle.frame.specs.Table.{define, defineAck, cancel, cancelAck}
 use borrow.Author.Needs.{needs}
 use Rattle.frame.proofs.table.count_of.Statement.{statement}
 use Rattle.frame.proofs.table.count_of.Tie as tie
-use Rattle.frame.proofs.table.count_of.Reads as reads
-use Rattle.frame.proofs.table.count_of.Lts as lts
 
 enum-told : tie.Need-enum-told
 enum-told c = search needs

@@ -4,8 +4,6 @@ use Rattle.frame.proofs.TableLaws.{filled-four}
 use borrow.Author.Needs.{needs}
 use Rattle.frame.proofs.table.filled4.Statement.{statement}
 use Rattle.frame.proofs.table.filled4.Tie as tie
-use Rattle.frame.proofs.table.filled4.Reads as reads
-use Rattle.frame.proofs.table.filled4.Lts as lts
 
 array-copy-out-table : tie.Need-array-copy-out-table
 array-copy-out-table c = search needs

@@ -6,8 +6,6 @@ use Rattle.frame.specs.declared.Shape.the-variants as shape
 use borrow.Author.Needs.{needs}
 use Rattle.frame.proofs.table.span_of.Statement.{statement}
 use Rattle.frame.proofs.table.span_of.Tie as tie
-use Rattle.frame.proofs.table.span_of.Reads as reads
-use Rattle.frame.proofs.table.span_of.Lts as lts
 
 enum-told : tie.Need-enum-told
 enum-told c = search needs

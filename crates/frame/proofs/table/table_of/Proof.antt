@@ -1,16 +1,12 @@
 -- `frame::table::table_of` meets its contract: the code's tables are those of the definitions.
 -- Assumes nothing.
-use mathlib.Core.Path.{sym, ap, _∙_}
+use mathlib.Core.Path.{_∙_}
 use Rattle.frame.specs.Shape.{span, spans}
-use Rattle.frame.specs.Table.{define, defineAck, cancel, cancelAck, tableOf}
+use Rattle.frame.specs.Table.{define, defineAck, cancel, cancelAck}
 use Rattle.frame.specs.Walk.{filled}
 use borrow.Author.Needs.{needs}
 use Rattle.frame.proofs.table.table_of.Statement.{statement}
 use Rattle.frame.proofs.table.table_of.Tie as tie
-use Rattle.frame.proofs.table.table_of.Reads as reads
-use Rattle.frame.proofs.table.table_of.Lts as lts
-use Rattle.frame.proofs.table.filled4.Reads as filled4-reads
-use Rattle.frame.proofs.table.filled7.Reads as filled7-reads
 
 enum-told : tie.Need-enum-told
 enum-told c = search needs

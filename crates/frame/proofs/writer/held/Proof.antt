@@ -1,11 +1,8 @@
 -- `frame::writer::held` meets its contract.
 -- Assumes nothing.
 use borrow.Author.Tests.{le-leb, lt-leb}
-use borrow.Author.Needs.{needs}
 use Rattle.frame.proofs.writer.held.Statement.{statement}
 use Rattle.frame.proofs.writer.held.Tie as tie
-use Rattle.frame.proofs.writer.held.Reads as reads
-use Rattle.frame.proofs.writer.held.Lts as lts
 
 returns : tie.Need-returns
 returns c = rw (le-leb _ 1 (c .if1 .taken))

@@ -4,10 +4,6 @@ use mathlib.Core.Path.{_∙_}
 use borrow.Author.Needs.{needs}
 use Rattle.frame.proofs.writer.judge_record.Statement.{statement}
 use Rattle.frame.proofs.writer.judge_record.Tie as tie
-use Rattle.frame.proofs.writer.judge_record.Reads as reads
-use Rattle.frame.proofs.writer.judge_record.Lts as lts
-use Rattle.frame.proofs.writer.judged.Reads as judged-reads
-use Rattle.frame.proofs.writer.walk.Reads as walk-reads
 
 walk-requires : tie.Need-walk-requires
 walk-requires c κs = search needs

@@ -3,8 +3,6 @@
 use borrow.Author.Needs.{needs}
 use Rattle.frame.proofs.writer.judged.Statement.{statement}
 use Rattle.frame.proofs.writer.judged.Tie as tie
-use Rattle.frame.proofs.writer.judged.Reads as reads
-use Rattle.frame.proofs.writer.judged.Lts as lts
 
 enum-told : tie.Need-enum-told
 enum-told c = search needs

@@ -6,10 +6,6 @@ use Rattle.frame.proofs.LayShapes.{element-puts, element-off}
 use borrow.Author.Needs.{needs}
 use Rattle.frame.proofs.writer.lay_element.Statement.{statement}
 use Rattle.frame.proofs.writer.lay_element.Tie as tie
-use Rattle.frame.proofs.writer.lay_element.Reads as reads
-use Rattle.frame.proofs.writer.lay_element.Lts as lts
-use Rattle.frame.proofs.parts.there.Reads as there-reads
-use Rattle.frame.proofs.writer.lay_shape.Reads as lay-shape-reads
 
 there-requires : tie.Need-there-requires
 there-requires c κs =

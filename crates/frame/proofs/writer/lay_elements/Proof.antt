@@ -1,26 +1,14 @@
 -- `frame::writer::lay_elements` meets its contract. The loop's invariant: what is laid so far, and what is left.
 -- Assumes nothing.
-use Prim.Native.Nat.{ℕ, _+_, _-_, _≤_, _<_}
-use mathlib.Core.Path.{_≡_, refl, sym, ap, subst, _∙_}
-use mathlib.Core.List.{List, []}
+use Prim.Native.Nat.{_-_, _<_}
+use mathlib.Core.Path.{sym}
 use native.Mathlib.Omega.{arith}
 use lib.ListN.{length, take}
-use Rattle.frame.specs.declared.Element.{Element}
-use Rattle.frame.specs.Frame.{rows}
-use Rattle.frame.specs.Shape.{unrolled}
-use Rattle.frame.specs.Write.{lay}
-use Rattle.frame.specs.Lay.{Walks}
 use Rattle.frame.proofs.TableLaws.{table-held, placed-looks, placed-sound, placed-room}
 use Rattle.frame.proofs.WholeRecord.{Wrote, wrote-none, wrote-ready, wrote-next, wrote-missing, wrote-bad, wrote-bits, wrote-group, walks-kind}
 use borrow.Author.Needs.{needs}
 use Rattle.frame.proofs.writer.lay_elements.Statement.{statement}
 use Rattle.frame.proofs.writer.lay_elements.Tie as tie
-use Rattle.frame.proofs.writer.lay_elements.Reads as reads
-use Rattle.frame.proofs.writer.lay_elements.Lts as lts
-use Rattle.frame.proofs.table.count_of.Reads as count-of-reads
-use Rattle.frame.proofs.table.span_of.Reads as span-of-reads
-use Rattle.frame.proofs.table.table_of.Reads as table-of-reads
-use Rattle.frame.proofs.writer.lay_element.Reads as lay-element-reads
 
 abbrev Inv-loop : tie.InvT-loop
 Inv-loop values out₀ table count clean₀ grouped₀ at₀ place₀ k₀ out clean grouped at place k = Wrote (take count table) values out₀ clean out grouped at place k
@@ -77,8 +65,7 @@ lay-element-requires c κs =
     let l = c .before .before .before .before .before .loop in
     let t = table-held (s .args .kind) _ _ (c .before .before .before .before .before .before .before .table-of .ensures) (c .before .before .before .before .before .before .count-of .ensures) in
     let inside : l .k < length (take (c .before .before .before .before .before .before .count-of .result) (c .before .before .before .before .before .before .before .table-of .result)) = omega (arith, t .size, c .before .before .before .before .loop-test .taken) in
-    let is = t .at (l .k) (c .before .before .before .before .loop-test .taken) in
-    (
+    let is = t .at (l .k) (c .before .before .before .before .loop-test .taken) in (
       wrote-ready _ (s .args .values .now) (s .args .out .now) (l .clean) (l .out) (l .grouped) (l .at) (l .place) (l .k) _ (l .inv) (s .pre) (placed-room _ (l .place) (l .k) _ (l .inv .placed) inside is),
       placed-looks _ (l .place) (l .k) _ (l .inv .placed) inside is,
       placed-sound _ (l .place) (l .k) _ (l .inv .placed) inside is,

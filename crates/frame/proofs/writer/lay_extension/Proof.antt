@@ -6,9 +6,6 @@ use Rattle.frame.proofs.IdentityLaws.{extension-on, extension-off}
 use borrow.Author.Needs.{needs}
 use Rattle.frame.proofs.writer.lay_extension.Statement.{statement}
 use Rattle.frame.proofs.writer.lay_extension.Tie as tie
-use Rattle.frame.proofs.writer.lay_extension.Reads as reads
-use Rattle.frame.proofs.writer.lay_extension.Lts as lts
-use Rattle.frame.proofs.writer.lay_field.Reads as lay-field-reads
 
 mul-if1 : tie.Need-mul-if1
 mul-if1 c = search needs

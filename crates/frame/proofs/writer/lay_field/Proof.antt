@@ -1,17 +1,10 @@
 -- `frame::writer::lay_field` meets its contract: a value without a code is bad, any other is kept and laid.
 -- Assumes nothing.
-use mathlib.Core.Path.{_≡_, refl, sym, ap, _∙_}
 use native.Mathlib.Omega.{arith}
-use Rattle.bits.proofs.Laws.{length-putAt}
-use Rattle.frame.specs.Lay.{Lays}
 use Rattle.frame.proofs.LayLaws.{field-laid, field-low, field-high}
 use borrow.Author.Needs.{needs}
 use Rattle.frame.proofs.writer.lay_field.Statement.{statement}
 use Rattle.frame.proofs.writer.lay_field.Tie as tie
-use Rattle.frame.proofs.writer.lay_field.Reads as reads
-use Rattle.frame.proofs.writer.lay_field.Lts as lts
-use Rattle.bits.proofs.put_field.Reads as put-field-reads
-use Rattle.frame.proofs.writer.held.Reads as held-reads
 
 mul-held : tie.Need-mul-held
 mul-held c = search needs

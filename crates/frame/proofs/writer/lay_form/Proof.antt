@@ -1,6 +1,6 @@
 -- `frame::writer::lay_form` meets its contract: form 1 is an SNA, a higher one an SSI, form 3 with an extension.
 -- Assumes nothing.
-use mathlib.Core.Path.{_≡_, refl}
+use mathlib.Core.Path.{refl}
 use Prim.Native.Nat.{_+_}
 use native.Mathlib.Omega.{arith}
 use Rattle.frame.proofs.LayLaws.{laying, kept, ready-after, ready-later}
@@ -8,10 +8,6 @@ use Rattle.frame.proofs.IdentityLaws.{form-sna, form-none, form-stop, f
 use borrow.Author.Needs.{needs}
 use Rattle.frame.proofs.writer.lay_form.Statement.{statement}
 use Rattle.frame.proofs.writer.lay_form.Tie as tie
-use Rattle.frame.proofs.writer.lay_form.Reads as reads
-use Rattle.frame.proofs.writer.lay_form.Lts as lts
-use Rattle.frame.proofs.writer.lay_extension.Reads as lay-extension-reads
-use Rattle.frame.proofs.writer.lay_field.Reads as lay-field-reads
 
 mul-if1 : tie.Need-mul-if1
 mul-if1 c = search needs

@@ -6,11 +6,6 @@ use Rattle.frame.proofs.WriteLaws.{framed}
 use borrow.Author.Needs.{needs}
 use Rattle.frame.proofs.writer.lay_frame.Statement.{statement}
 use Rattle.frame.proofs.writer.lay_frame.Tie as tie
-use Rattle.frame.proofs.writer.lay_frame.Reads as reads
-use Rattle.frame.proofs.writer.lay_frame.Lts as lts
-use Rattle.bits.proofs.put_field.Reads as put-field-reads
-use Rattle.frame.proofs.table.action_type.Reads as action-type-reads
-use Rattle.frame.proofs.writer.lay_elements.Reads as lay-elements-reads
 
 put-field-requires : tie.Need-put-field-requires
 put-field-requires c κs = search needs

@@ -1,17 +1,12 @@
 -- `frame::writer::lay_identity` meets its contract: the form, then what follows it.
 -- Assumes nothing.
-use mathlib.Core.Path.{_≡_, refl}
-use Prim.Native.Nat.{_+_}
+use mathlib.Core.Path.{refl}
 use native.Mathlib.Omega.{arith}
 use Rattle.frame.proofs.LayLaws.{laying, kept, ready-after, ready-later}
 use Rattle.frame.proofs.Walks.{goes-then, goes-stop}
 use borrow.Author.Needs.{needs}
 use Rattle.frame.proofs.writer.lay_identity.Statement.{statement}
 use Rattle.frame.proofs.writer.lay_identity.Tie as tie
-use Rattle.frame.proofs.writer.lay_identity.Reads as reads
-use Rattle.frame.proofs.writer.lay_identity.Lts as lts
-use Rattle.frame.proofs.writer.lay_field.Reads as lay-field-reads
-use Rattle.frame.proofs.writer.lay_form.Reads as lay-form-reads
 
 lay-field-requires : tie.Need-lay-field-requires
 lay-field-requires c κs =

@@ -1,17 +1,12 @@
 -- `frame::writer::lay_item` meets its contract: an identity, or a letter.
 -- Assumes nothing.
-use mathlib.Core.Path.{refl, ap, subst}
+use mathlib.Core.Path.{refl, ap}
 use native.Mathlib.Omega.{arith}
 use Rattle.frame.specs.Shape.{stride}
-use Rattle.frame.specs.Lay.{Ready}
 use Rattle.frame.proofs.LayLaws.{ready-later}
 use borrow.Author.Needs.{needs}
 use Rattle.frame.proofs.writer.lay_item.Statement.{statement}
 use Rattle.frame.proofs.writer.lay_item.Tie as tie
-use Rattle.frame.proofs.writer.lay_item.Reads as reads
-use Rattle.frame.proofs.writer.lay_item.Lts as lts
-use Rattle.frame.proofs.writer.lay_field.Reads as lay-field-reads
-use Rattle.frame.proofs.writer.lay_identity.Reads as lay-identity-reads
 
 enum-told : tie.Need-enum-told
 enum-told c = search needs
@@ -26,8 +21,7 @@ enum-told-2 c = search needs
 
 lay-field-requires : tie.Need-lay-field-requires
 lay-field-requires c κs =
-    let s = c .before .before .before .before .before .before .before in
-    (
+    let s = c .before .before .before .before .before .before .before in (
       ready-later _ _ _ (s .args .place) (s .args .place) _ 1 (s .pre) (omega arith) (omega (arith, ap stride (c .before .before .enum-told2 .given .1))),
       record { some = omega arith; few = omega arith; low = omega arith; plain = refl },
     )

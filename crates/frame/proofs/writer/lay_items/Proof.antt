@@ -1,22 +1,15 @@
 -- `frame::writer::lay_items` meets its contract. The loop's invariant: i items are laid, and the next begins at `place`.
 -- Assumes nothing.
-use Prim.Native.Nat.{_+_, _-_, _≤_}
-use mathlib.Core.Path.{_≡_, sym, ap, subst, _∙_}
+use Prim.Native.Nat.{_-_, _≤_}
+use mathlib.Core.Path.{_≡_, _∙_}
 use native.Mathlib.Omega.{arith}
-use lib.ListN.{length}
-use Rattle.frame.specs.Shape.{stride, times, repeated}
-use Rattle.frame.specs.Lay.{Lays}
+use Rattle.frame.specs.Shape.{times}
 use Rattle.frame.proofs.LayLaws.{laying, kept, lays-size, lays-out}
 use Rattle.frame.proofs.LayLists.{listing-ready}
 use Rattle.frame.proofs.ListLaws.{Listing, listing-none, listing-more, listing-stop, times-most}
 use borrow.Author.Needs.{needs}
 use Rattle.frame.proofs.writer.lay_items.Statement.{statement}
 use Rattle.frame.proofs.writer.lay_items.Tie as tie
-use Rattle.frame.proofs.writer.lay_items.Reads as reads
-use Rattle.frame.proofs.writer.lay_items.Lts as lts
-use Rattle.frame.proofs.parts.stride_of.Reads as stride-of-reads
-use Rattle.frame.proofs.parts.times_of.Reads as times-of-reads
-use Rattle.frame.proofs.writer.lay_listed.Reads as lay-listed-reads
 
 abbrev Inv-loop : tie.InvT-loop
 Inv-loop values clean₀ out₀ from count items many each place₀ at₀ i₀ clean out place at i = Listing (laying values) items from count (kept clean₀ out₀) (kept clean out) at place i × (i ≤ many)
@@ -43,8 +36,7 @@ lay-listed-requires c κs =
     let s = c .before .before .before .before .before .before .before .before .before in
     let l = c .before .before .before .loop in
     let many = c .before .before .before .before .before .times-of .ensures in
-    let less = c .before .before .loop-test .taken in
-    (
+    let less = c .before .before .loop-test .taken in (
       listing-ready (s .args .values .now) (s .args .items) (s .args .from) (s .args .count) (s .args .clean .now) (s .args .out .now) (l .clean) (l .out) (l .at) (l .place) (l .i)
           (times (s .args .items)) (s .pre) (l .inv .0) (omega arith),
       omega (arith, times-most (s .args .items)),
@@ -76,7 +68,7 @@ add-place-2 c =
     let s = c .before .before .before .before .before .before .before .before .before .before .before .before .before .before .before .before .before in
     let l = c .before .before .before .before .before .before .before .before .before .before .before .loop in
     let now = listing-ready (s .args .values .now) (s .args .items) (s .args .from) (s .args .count) (s .args .clean .now) (s .args .out .now) (l .clean) (l .out) (l .at) (l .place) (l .i)
-        (times (s .args .items)) (s .pre) (l .inv .0) (omega (arith, c .before .before .before .before .before .before .before .before .before .before .before .before .before .times-of .ensures, c .before .before .before .before .before .before .before .before .before .before .loop-test .taken)) in
+    (times (s .args .items)) (s .pre) (l .inv .0) (omega (arith, c .before .before .before .before .before .before .before .before .before .before .before .before .before .times-of .ensures, c .before .before .before .before .before .before .before .before .before .before .loop-test .taken)) in
     omega (arith, c .before .before .before .before .before .before .before .before .before .before .before .before .stride-of .ensures, now .room)
 
 add-i : tie.Need-add-i Inv-loop μ-loop
@@ -88,8 +80,7 @@ loop-less c = omega (arith, c .before .before .before .before .before .before .b
 loop-again : tie.Need-loop-again Inv-loop μ-loop
 loop-again c =
     let s = c .before .before .before .before .before .before .before .before .before .before .before .before .before .before .before .before .before in
-    let l = c .before .before .before .before .before .before .before .before .before .before .before .loop in
-    (
+    let l = c .before .before .before .before .before .before .before .before .before .before .before .loop in (
       listing-more (laying (s .args .values .now)) (s .args .items) (s .args .from) (s .args .count) (kept (s .args .clean .now) (s .args .out .now)) (kept (l .clean) (l .out))
           (kept (c .before .before .before .before .before .before .before .lay-listed .last .1 .0) (c .before .before .before .before .before .before .before .lay-listed .last .1 .1 .0)) (l .at) (l .place) (l .i) _ (l .inv .0) (c .before .before .before .before .before .before .before .lay-listed .ensures) _ _ (c .before .next .given .1) (c .before .before .before .before .before .before .before .before .before .before .before .before .stride-of .ensures),
       omega (arith, c .before .before .before .before .before .before .before .before .before .before .loop-test .taken),

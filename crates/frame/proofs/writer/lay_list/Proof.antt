@@ -8,11 +8,6 @@ use Rattle.frame.proofs.ListLaws.{list-on, list-stop}
 use borrow.Author.Needs.{needs}
 use Rattle.frame.proofs.writer.lay_list.Statement.{statement}
 use Rattle.frame.proofs.writer.lay_list.Tie as tie
-use Rattle.frame.proofs.writer.lay_list.Reads as reads
-use Rattle.frame.proofs.writer.lay_list.Lts as lts
-use Rattle.frame.proofs.parts.count_field.Reads as count-field-reads
-use Rattle.frame.proofs.writer.lay_field.Reads as lay-field-reads
-use Rattle.frame.proofs.writer.lay_items.Reads as lay-items-reads
 
 count-field-requires : tie.Need-count-field-requires
 count-field-requires c κs = search needs

@@ -6,10 +6,6 @@ use Rattle.frame.proofs.ListLaws.{item-on, item-off}
 use borrow.Author.Needs.{needs}
 use Rattle.frame.proofs.writer.lay_listed.Statement.{statement}
 use Rattle.frame.proofs.writer.lay_listed.Tie as tie
-use Rattle.frame.proofs.writer.lay_listed.Reads as reads
-use Rattle.frame.proofs.writer.lay_listed.Lts as lts
-use Rattle.frame.proofs.parts.least_for.Reads as least-for-reads
-use Rattle.frame.proofs.writer.lay_item.Reads as lay-item-reads
 
 least-for-requires : tie.Need-least-for-requires
 least-for-requires c κs = search needs

@@ -9,16 +9,6 @@ use Rattle.frame.proofs.ShapeLaws.{sound-number, sound-choice, sound-mi
 use borrow.Author.Needs.{needs}
 use Rattle.frame.proofs.writer.lay_shape.Statement.{statement}
 use Rattle.frame.proofs.writer.lay_shape.Tie as tie
-use Rattle.frame.proofs.writer.lay_shape.Reads as reads
-use Rattle.frame.proofs.writer.lay_shape.Lts as lts
-use Rattle.frame.proofs.parts.choice.Reads as choice-reads
-use Rattle.frame.proofs.parts.nothing_between.Reads as nothing-between-reads
-use Rattle.frame.proofs.parts.number.Reads as number-reads
-use Rattle.frame.proofs.parts.wide.Reads as wide-reads
-use Rattle.frame.proofs.writer.lay_field.Reads as lay-field-reads
-use Rattle.frame.proofs.writer.lay_identity.Reads as lay-identity-reads
-use Rattle.frame.proofs.writer.lay_list.Reads as lay-list-reads
-use Rattle.frame.proofs.writer.told.Reads as told-reads
 
 enum-known-shape : tie.Need-enum-known-shape
 enum-known-shape c = search needs
@@ -88,8 +78,7 @@ enum-told-2 c = search needs
 
 lay-field-requires-3 : tie.Need-lay-field-requires-3
 lay-field-requires-3 c κs =
-    let s = c .before .before .before .before .before .before .before in
-    (
+    let s = c .before .before .before .before .before .before .before in (
       ready-later _ _ _ (s .args .place) (s .args .place) (span (s .args .shape)) 1 (s .pre .0) (omega arith) (omega (arith, span-some (s .args .shape))),
       record { some = omega arith; few = omega arith; low = omega arith; plain = refl },
     )

@@ -6,9 +6,6 @@ use Rattle.frame.proofs.WriteLaws.{spare-width}
 use borrow.Author.Needs.{needs}
 use Rattle.frame.proofs.writer.lay_spare.Statement.{statement}
 use Rattle.frame.proofs.writer.lay_spare.Tie as tie
-use Rattle.frame.proofs.writer.lay_spare.Reads as reads
-use Rattle.frame.proofs.writer.lay_spare.Lts as lts
-use Rattle.bits.proofs.put_field.Reads as put-field-reads
 
 sub-put-field : tie.Need-sub-put-field
 sub-put-field c = search needs

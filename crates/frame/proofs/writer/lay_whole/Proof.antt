@@ -5,10 +5,6 @@ use Rattle.frame.specs.Frame.{write}
 use borrow.Author.Needs.{needs}
 use Rattle.frame.proofs.writer.lay_whole.Statement.{statement}
 use Rattle.frame.proofs.writer.lay_whole.Tie as tie
-use Rattle.frame.proofs.writer.lay_whole.Reads as reads
-use Rattle.frame.proofs.writer.lay_whole.Lts as lts
-use Rattle.frame.proofs.writer.lay_frame.Reads as lay-frame-reads
-use Rattle.frame.proofs.writer.lay_spare.Reads as lay-spare-reads
 
 lay-frame-requires : tie.Need-lay-frame-requires
 lay-frame-requires c κs = search needs

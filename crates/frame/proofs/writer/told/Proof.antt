@@ -1,22 +1,18 @@
+-- `frame::writer::told` meets its contract.
+-- Assumes nothing.
 use borrow.Author.Needs.{needs}
 use Rattle.frame.proofs.writer.told.Statement.{statement}
 use Rattle.frame.proofs.writer.told.Tie as tie
-use Rattle.frame.proofs.writer.told.Reads as reads
-use Rattle.frame.proofs.writer.told.Lts as lts
 
--- src/writer.rt:217:19
 enum-known-put : tie.Need-enum-known-put
 enum-known-put c = search needs
 
--- src/writer.rt:218:21
 enum-told : tie.Need-enum-told
 enum-told c = search needs
 
--- src/writer.rt:213:1
 returns : tie.Need-returns
 returns c = rw (c .before .put .given .1)
 
--- src/writer.rt:213:1
 returns-2 : tie.Need-returns-2
 returns-2 c = search needs
 

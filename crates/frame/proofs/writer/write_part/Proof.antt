@@ -7,9 +7,6 @@ use Rattle.frame.proofs.WriteLaws.{valid-writable, past-end, too-few, w
 use borrow.Author.Needs.{needs}
 use Rattle.frame.proofs.writer.write_part.Statement.{statement}
 use Rattle.frame.proofs.writer.write_part.Tie as tie
-use Rattle.frame.proofs.writer.write_part.Reads as reads
-use Rattle.frame.proofs.writer.write_part.Lts as lts
-use Rattle.frame.proofs.writer.lay_whole.Reads as lay-whole-reads
 
 returns : tie.Need-returns
 returns c =

@@ -7,10 +7,6 @@ use Rattle.frame.proofs.WriteLaws.{counted, refused-by, refused-record}
 use borrow.Author.Needs.{needs}
 use Rattle.frame.proofs.writer.write_record.Statement.{statement}
 use Rattle.frame.proofs.writer.write_record.Tie as tie
-use Rattle.frame.proofs.writer.write_record.Reads as reads
-use Rattle.frame.proofs.writer.write_record.Lts as lts
-use Rattle.frame.proofs.writer.walk.Reads as walk-reads
-use Rattle.frame.proofs.writer.write_part.Reads as write-part-reads
 
 walk-requires : tie.Need-walk-requires
 walk-requires c κs = search needs

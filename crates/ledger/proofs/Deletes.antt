@@ -1,0 +1,135 @@
+-- Laws of a delete: its tests and its orders are the law's, and its walks leave what the law leaves.
+use mathlib.Core.Path.{_≡_, refl, sym, ap, _∙_}
+use mathlib.Core.Bool.{Bool, true, false, cond, not, _&&_, _||_, true≢false}
+use mathlib.Core.List.{List, [], _∷_, _++_, map}
+use mathlib.Core.Option.{none, some}
+use Prim.Native.Nat.{ℕ, _≤_}
+use native.Mathlib.Omega.{arith}
+use lib.ListN.{length, set, take}
+use Rattle.refusal.specs.declared.Refusal.{Refusal}
+use Rattle.rules.specs.Lists.{present, mem, join}
+use Rattle.rules.specs.Entries.{alter, keepKeys}
+use Rattle.rules.specs.Mark.{Mark}
+use Rattle.rules.specs.Number as number
+use Rattle.rules.specs.Effect.{effect}
+use Rattle.rules.specs.Outgoing.{orders, outgoing}
+use Rattle.rules.specs.Refusals.{first, tests}
+use Rattle.rules.specs.Demand.{radiosListed}
+use Rattle.rules.specs.Listing.{listedIn}
+use Rattle.rules.specs.Ledger.{Group, Pair, samePair, view, members, tally, apply, refused}
+use Rattle.rules.proofs.EntryLaws.{Single}
+use Rattle.rules.proofs.Walks.{alter-out}
+use Rattle.rules.proofs.Listing.{listed-members, entries-radios}
+use Rattle.rules.proofs.Written.{written-form}
+use Rattle.ledger.specs.Lists.{onto}
+use Rattle.ledger.specs.Storage.{Contents, contents, groupRow, pairRow, ledgerOf, laid}
+use Rattle.ledger.specs.Form.{Sound}
+use Rattle.ledger.specs.Turns.{turnOf}
+use Rattle.ledger.specs.Lent.{numbersOf, listOf}
+use Rattle.ledger.specs.Orders.{replyOf, verdict}
+use Rattle.ledger.specs.Sending.{leavingOrders, remaining}
+use Rattle.ledger.specs.Deletes.{deleteOf, formTests, standTests, deleteTurn, goneOf}
+use Rattle.ledger.specs.declared.Itsi.{Itsi}
+use Rattle.ledger.specs.declared.Numbers.{Numbers}
+use Rattle.ledger.specs.declared.Listed.{Listed}
+use Rattle.ledger.specs.declared.Turn.{Turn}
+use Rattle.ledger.specs.declared.Reply.the-variants.{Done, Refused}
+use Rattle.ledger.proofs.Form.{law-form}
+use Rattle.ledger.proofs.Listing.{first-none, first-some, reply-none, reply-some}
+use Rattle.ledger.proofs.Orders.{alter-same, tests-pass}
+use borrow.Author.Tests.{ltb-false}
+
+given-present : {A : Type 0} (b : Bool) (x : A) → present (cond b (some x) none) ≡ b
+given-present true x = refl
+given-present false x = refl
+
+join-same : {A : Type 0} (f g : ℕ → List A) → ((x : ℕ) → f x ≡ g x) → (l : List ℕ) → join f l ≡ join g l
+join-same f g h [] = refl
+join-same f g h (x ∷ l) = rw (h x, join-same f g h l)
+
+module _ (c : Contents) (w : Sound c) where
+  once : Single samePair (ledgerOf c .pairs)
+  once = written-form (ledgerOf c) (law-form c w) .pairs-once
+
+  everyone-members : (g : ℕ) → radiosListed (listedIn g (ledgerOf c .pairs)) ≡ members (ledgerOf c) g
+  everyone-members g = ap radiosListed (listed-members (ledgerOf c) g once) ∙ entries-radios (view (ledgerOf c)) g (members (ledgerOf c) g)
+
+  module _ (asker : Itsi) (groups : Numbers) (remove deassign : Bool) (radios : Listed) (room : ℕ) where
+    pub delete-sends : outgoing (view (ledgerOf c)) (tally (ledgerOf c) (effect (deleteOf asker groups remove deassign radios room))) (deleteOf asker groups remove deassign radios room) ≡ leavingOrders deassign (radios .given) (number.numbersIn (listOf radios)) (ledgerOf c .pairs) (number.numbers (numbersOf groups))
+    delete-sends = join-same _ _ (λ g. rw (given-present (radios .given) (numbersOf (radios .numbers)), everyone-members g)) (number.numbers (numbersOf groups))
+
+    -- its tests are those of form, then those of what stands
+    delete-tests : tests (view (ledgerOf c)) (tally (ledgerOf c) (effect (deleteOf asker groups remove deassign radios room))) (deleteOf asker groups remove deassign radios room) ≡ formTests asker (record { given = true; numbers = groups }) deassign radios ++ standTests (ledgerOf c .groups) (ledgerOf c .pairs) asker (number.numbers (numbersOf groups)) remove deassign (radios .given) (number.numbersIn (listOf radios)) room
+    delete-tests = rw (delete-sends, given-present (radios .given) (numbersOf (radios .numbers)))
+
+    pub form-refused : (r : Refusal) → Refused r ≡ replyOf (first (formTests asker (record { given = true; numbers = groups }) deassign radios)) → Refused r ≡ replyOf (verdict c (deleteOf asker groups remove deassign radios room))
+    form-refused r e = rw (w .form) (ap replyOf (sym (ap first delete-tests ∙ first-some (formTests asker (record { given = true; numbers = groups }) deassign radios) (standTests (ledgerOf c .groups) (ledgerOf c .pairs) asker (number.numbers (numbersOf groups)) remove deassign (radios .given) (number.numbersIn (listOf radios)) room) r (reply-some (first (formTests asker (record { given = true; numbers = groups }) deassign radios)) r e))))
+
+    pub stand-replies : Done ≡ replyOf (first (formTests asker (record { given = true; numbers = groups }) deassign radios)) → replyOf (first (standTests (ledgerOf c .groups) (ledgerOf c .pairs) asker (number.numbers (numbersOf groups)) remove deassign (radios .given) (number.numbersIn (listOf radios)) room)) ≡ replyOf (verdict c (deleteOf asker groups remove deassign radios room))
+    stand-replies e = rw (w .form) (ap replyOf (sym (ap first delete-tests ∙ first-none (formTests asker (record { given = true; numbers = groups }) deassign radios) (standTests (ledgerOf c .groups) (ledgerOf c .pairs) asker (number.numbers (numbersOf groups)) remove deassign (radios .given) (number.numbersIn (listOf radios)) room) (reply-none (first (formTests asker (record { given = true; numbers = groups }) deassign radios)) e))))
+
+-- ---- what is left ----
+
+-- the pairs: those of the groups, or of the groups and the radios, go
+module _ (remove deassign : Bool) (h : (not remove && not deassign) ≡ false) (m : Mark) where
+  all-go : (x : Bool) → cond (not x) (some m) none ≡ cond (x && true) none (some m)
+  all-go true = refl
+  all-go false = refl
+
+  some-go : (x y : Bool) → cond (not (x && y)) (some m) none ≡ cond (x && y) none (some m)
+  some-go true true = refl
+  some-go true false = refl
+  some-go false y = refl
+
+  pub deleted-turn : (gs rs : List ℕ) (given : Bool) (k : Pair) → turnOf (deleteTurn remove given) gs rs k m ≡ cond (mem (k .0) gs && (remove || (deassign && cond given (mem (k .1) rs) true))) none (some m)
+  deleted-turn gs rs given k = go remove deassign given h
+    where
+      go : (a b d : Bool) → (not a && not b) ≡ false → turnOf (deleteTurn a d) gs rs k m ≡ cond (mem (k .0) gs && (a || (b && cond d (mem (k .1) rs) true))) none (some m)
+      go true b d e = all-go (mem (k .0) gs)
+      go false true true e = some-go (mem (k .0) gs) (mem (k .1) rs)
+      go false true false e = all-go (mem (k .0) gs)
+      go false false d e = absurd (true≢false e)
+
+-- the groups: those named go where the delete says so
+pub deleted-groups : (remove : Bool) (gs keys : List ℕ) (n : ℕ) (l : List (ℕ × Group)) → take n keys ≡ gs → remaining (take (goneOf remove n) keys) l ≡ keepKeys (λ g. not (remove && mem g gs)) l
+deleted-groups true gs keys n l e = rw e (alter-out (λ g. mem g gs) l)
+deleted-groups false gs keys n l e = alter-out (λ g. false) l
+
+set-both : (head : List ℕ) (n m : ℕ) → 2 ≤ length head → set (set head 0 n) 1 m ≡ onto (n ∷ m ∷ []) head
+set-both [] n m h = absurd (omega arith)
+set-both (a ∷ []) n m h = absurd (omega arith)
+set-both (a ∷ b ∷ l) n m h = refl
+
+module _ (c : Contents) (w : Sound c) (asker : Itsi) (groups : Numbers) (remove deassign : Bool) (radios : Listed) (room : ℕ) (h : (not remove && not deassign) ≡ false) where
+  pub deleted-laid : (gkeys rkeys : List ℕ) (gn rn gone n m : ℕ) (turn : Turn) (grows prows : List (List ℕ))
+      → take gn gkeys ≡ number.numbers (numbersOf groups) → take rn rkeys ≡ number.numbersIn (listOf radios) → gone ≡ goneOf remove gn → turn ≡ deleteTurn remove (radios .given)
+      → n ≡ length (remaining (take gone gkeys) (ledgerOf c .groups)) → grows ≡ onto (map groupRow (remaining (take gone gkeys) (ledgerOf c .groups))) (c .groups)
+      → m ≡ length (alter (turnOf turn (take gn gkeys) (take rn rkeys)) (ledgerOf c .pairs)) → prows ≡ onto (map pairRow (alter (turnOf turn (take gn gkeys) (take rn rkeys)) (ledgerOf c .pairs))) (c .pairs)
+      → contents (set (set (c .head) 0 n) 1 m) grows prows ≡ laid (apply (ledgerOf c) (effect (deleteOf asker groups remove deassign radios room))) c
+  deleted-laid gkeys rkeys gn rn gone n m turn grows prows ge re gq tq ne gre me pre =
+      let gs = number.numbers (numbersOf groups) in
+      let rs = number.numbersIn (listOf radios) in
+      let l′ = apply (ledgerOf c) (effect (deleteOf asker groups remove deassign radios room)) in
+      let g : remaining (take gone gkeys) (ledgerOf c .groups) ≡ l′ .groups =
+      ap (λ (z : ℕ). remaining (take z gkeys) (ledgerOf c .groups)) gq ∙ deleted-groups remove gs gkeys gn (ledgerOf c .groups) ge in
+      let p : alter (turnOf turn (take gn gkeys) (take rn rkeys)) (ledgerOf c .pairs) ≡ l′ .pairs =
+      ap (λ (z : Turn). alter (turnOf z (take gn gkeys) (take rn rkeys)) (ledgerOf c .pairs)) tq
+      ∙ rw (ge, re) (alter-same _ _ (λ k x. deleted-turn remove deassign h x gs rs (radios .given) k ∙ rw (given-present (radios .given) (numbersOf (radios .numbers)))) (ledgerOf c .pairs)) in
+      let e = ne ∙ ap length g in
+      let d = me ∙ ap length p in
+      let gl = gre ∙ ap (λ (z : List (ℕ × Group)). onto (map groupRow z) (c .groups)) g in
+      let pl = pre ∙ ap (λ (z : List (Pair × Mark)). onto (map pairRow z) (c .pairs)) p in
+      let hd : set (set (c .head) 0 n) 1 m ≡ onto (length (l′ .groups) ∷ length (l′ .pairs) ∷ []) (c .head) =
+      set-both (c .head) n m (w .head) ∙ (λ i. onto (e i ∷ d i ∷ []) (c .head)) in
+      λ i. contents (hd i) (gl i) (pl i)
+
+-- a delete that is taken has something to do, and room for its orders
+pub delete-passed : (c : Contents) → Sound c → (asker : Itsi) (groups : Numbers) (remove deassign : Bool) (radios : Listed) (room : ℕ) → refused (ledgerOf c) (deleteOf asker groups remove deassign radios room) ≡ none → ((not remove && not deassign) ≡ false) × (length (leavingOrders deassign (radios .given) (number.numbersIn (listOf radios)) (ledgerOf c .pairs) (number.numbers (numbersOf groups))) ≤ room)
+delete-passed c w asker groups remove deassign radios room e =
+    let l = tests (view (ledgerOf c)) (tally (ledgerOf c) (effect (deleteOf asker groups remove deassign radios room))) (deleteOf asker groups remove deassign radios room) in
+    (tests-pass l e 4, rw (← delete-sends c w asker groups remove deassign radios room) (ltb-false room _ (tests-pass l e 5)))
+
+-- no more groups go than are named
+pub gone-few : (remove : Bool) (n : ℕ) → goneOf remove n ≤ n
+gone-few true n = omega arith
+gone-few false n = omega arith

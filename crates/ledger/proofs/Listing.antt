@@ -1,0 +1,198 @@
+-- Laws of a group's list: an entry goes in by a gap that opens at its place; the walk over the pairs makes the law's list.
+use mathlib.Core.Path.{_≡_, refl, sym, ap, _∙_}
+use mathlib.Core.List.{List, [], _∷_, _++_, map, append-assoc}
+use mathlib.Core.Bool.{Bool, true, false, cond}
+use mathlib.Core.Option.{Option, none, some}
+use Prim.Native.Nat.{ℕ, zero, suc, _+_, _-_, _≤_, _<_}
+use native.Mathlib.Numerals.{add-one}
+use native.Mathlib.Omega.{arith}
+use lib.ListN.{length, getD, take, drop, set, take-append-drop, List·getD-append, length-map}
+use lib.Seq.{take-suc, getD-take, length-take-le, take-take, set-at, take-at}
+use lib.Dec.{ltb, eqb}
+use borrow.Author.Tests.{lt-ltb, le-ltb}
+use Rattle.rules.specs.Mark.{Mark}
+use Rattle.rules.specs.Replies.{Listed}
+use Rattle.refusal.specs.declared.Refusal.{Refusal}
+use Rattle.refusal.specs.declared.Refusal.the-variants.{NotWritten, NoRoom}
+use Rattle.rules.specs.Refusals.{first, askTests, showRefusal, listRefusal}
+use Rattle.rules.specs.Ledger.{Pair, samePair, view, members, list}
+use Rattle.rules.proofs.EntryLaws.{Single}
+use Rattle.rules.proofs.Written.{written-form}
+use Rattle.rules.proofs.Listing.{listed-members, length-listed}
+use Rattle.rules.specs.Listing.{insertEntry, listedIn}
+use Rattle.ledger.specs.Lists.{left, onto}
+use Rattle.ledger.specs.Storage.{Contents, ledgerOf, pairOf, pairsOf, pairsFrom}
+use Rattle.ledger.specs.Form.{isWritten, Sound}
+use Rattle.ledger.specs.Orders.{replyOf, judged}
+use Rattle.ledger.specs.Listing.{entryRow, insertRow, placeIn, gap, markIn, listOn, membersOf}
+use Rattle.ledger.specs.declared.Gtsi.{Gtsi}
+use Rattle.ledger.specs.declared.Itsi.{Itsi}
+use Rattle.ledger.specs.declared.Reply.the-variants.{Done, Refused}
+use Rattle.ledger.specs.declared.Members.the-variants as members
+use Rattle.ledger.specs.Places.{foundOf}
+use Rattle.ledger.specs.declared.Found.the-variants.{Held, Nothing}
+use Rattle.ledger.proofs.Form.{law-form}
+use Rattle.ledger.proofs.Rows.{left-cons, left-end, onto-onto}
+
+pub gap-same : (o : List (List ℕ)) (k : ℕ) → gap k k o ≡ o
+gap-same o k = rw (left-end o k k (omega arith)) (take-append-drop (k + 1) o)
+
+-- a row stored at j, where the gap is
+gap-set : (o : List (List ℕ)) (k j : ℕ) (x : List ℕ) → j < length o → set (gap j k o) j x ≡ take j o ++ (x ∷ (left j k o ++ drop (k + 1) o))
+gap-set o k j x h =
+    let e : take (j + 1) o ≡ take j o ++ (getD o j [] ∷ []) = rw add-one (take-suc o j [] h) in
+    rw (e, append-assoc) (set-at (take j o) (getD o j []) (left j k o ++ drop (k + 1) o) x j (length-take-le j o (omega arith)))
+
+pub gap-turn : (o : List (List ℕ)) (k i : ℕ) → i < k → k < length o → set (gap (i + 1) k o) (i + 1) (getD (gap (i + 1) k o) i []) ≡ gap i k o
+gap-turn o k i p q =
+    let h : i < length (take (i + 1 + 1) o) = rw (length-take-le (i + 1 + 1) o (omega arith)) (omega arith) in
+    let r : getD (gap (i + 1) k o) i [] ≡ getD o i [] = List·getD-append (take (i + 1 + 1) o) (left (i + 1) k o ++ drop (k + 1) o) [] i h ∙ getD-take (i + 1 + 1) o i [] (omega arith) in
+    gap-set o k (i + 1) _ (omega arith) ∙ rw (r, left-cons o k i [] p (omega arith))
+
+insert-place : (x : List ℕ) (l : List (List ℕ)) → insertRow x l ≡ take (placeIn (getD x 0 0) l) l ++ (x ∷ drop (placeIn (getD x 0 0) l) l)
+insert-place x [] = refl
+insert-place x (y ∷ ys) = go (ltb (getD x 0 0) (getD y 0 0)) (insert-place x ys)
+  where
+    go : (b : Bool) → insertRow x ys ≡ take (placeIn (getD x 0 0) ys) ys ++ (x ∷ drop (placeIn (getD x 0 0) ys) ys) → cond b (x ∷ y ∷ ys) (y ∷ insertRow x ys) ≡ take (cond b 0 (placeIn (getD x 0 0) ys + 1)) (y ∷ ys) ++ (x ∷ drop (cond b 0 (placeIn (getD x 0 0) ys + 1)) (y ∷ ys))
+    go true e = refl
+    go false e = rw add-one (ap (λ (z : List (List ℕ)). y ∷ z) e)
+
+pub insert-length : (x : List ℕ) (l : List (List ℕ)) → length (insertRow x l) ≡ length l + 1
+insert-length x [] = refl
+insert-length x (y ∷ ys) = go (ltb (getD x 0 0) (getD y 0 0)) (insert-length x ys)
+  where
+    go : (b : Bool) → length (insertRow x ys) ≡ length ys + 1 → length (cond b (x ∷ y ∷ ys) (y ∷ insertRow x ys)) ≡ suc (length ys) + 1
+    go true e = omega arith
+    go false e = omega arith
+
+pub insert-onto : (o : List (List ℕ)) (k j : ℕ) (x : List ℕ) → j ≡ placeIn (getD x 0 0) (take k o) → j ≤ k → k < length o → set (gap j k o) j x ≡ onto (insertRow x (take k o)) o
+insert-onto o k j x e p q =
+    let n : length (insertRow x (take k o)) ≡ k + 1 = insert-length x (take k o) ∙ ap (λ (m : ℕ). m + 1) (length-take-le k o (omega arith)) in
+    gap-set o k j x (omega arith) ∙ rw (n, insert-place x (take k o), ← e, append-assoc, take-take j k o p)
+
+-- ---- entries and their rows ----
+
+pub rows-insert : (x : Listed) (l : List Listed) → map entryRow (insertEntry x l) ≡ insertRow (entryRow x) (map entryRow l)
+rows-insert x [] = refl
+rows-insert x (y ∷ l) = go (ltb (x .0) (y .0)) (rows-insert x l)
+  where
+    go : (b : Bool) → map entryRow (insertEntry x l) ≡ insertRow (entryRow x) (map entryRow l) → map entryRow (cond b (x ∷ y ∷ l) (y ∷ insertEntry x l)) ≡ cond b (entryRow x ∷ entryRow y ∷ map entryRow l) (entryRow y ∷ insertRow (entryRow x) (map entryRow l))
+    go true e = refl
+    go false e = ap (λ (z : List (List ℕ)). entryRow y ∷ z) e
+
+pub entry-length : (x : Listed) (l : List Listed) → length (insertEntry x l) ≡ length l + 1
+entry-length x [] = refl
+entry-length x (y ∷ l) = go (ltb (x .0) (y .0)) (entry-length x l)
+  where
+    go : (b : Bool) → length (insertEntry x l) ≡ length l + 1 → length (cond b (x ∷ y ∷ l) (y ∷ insertEntry x l)) ≡ suc (length l) + 1
+    go true e = omega arith
+    go false e = omega arith
+
+-- what a row's mark says of its group
+pub mark-held : (g : ℕ) (e : Pair × Mark) (state ticks : ℕ) → foundOf (markIn g e) ≡ Held state ticks → (eqb g (e .0 .0) ≡ true) × (state ≡ e .1 .state)
+mark-held g e state ticks = go (eqb g (e .0 .0))
+  where
+    go : (b : Bool) → foundOf (cond b (some (e .1)) none) ≡ Held state ticks → (b ≡ true) × (state ≡ e .1 .state)
+    go true q = (refl, cc)
+    go false q = let z : _≡_ {A = ℕ} 0 1 = cc in absurd (omega arith)
+
+pub mark-none : (g : ℕ) (e : Pair × Mark) → foundOf (markIn g e) ≡ Nothing → eqb g (e .0 .0) ≡ false
+mark-none g e = go (eqb g (e .0 .0))
+  where
+    go : (b : Bool) → foundOf (cond b (some (e .1)) none) ≡ Nothing → b ≡ false
+    go true q = let z : _≡_ {A = ℕ} 0 1 = cc in absurd (omega arith)
+    go false q = refl
+
+-- fewer are listed of what is left
+listed-left : (g : ℕ) (i : ℕ) (l : List (Pair × Mark)) → length (listedIn g (drop i l)) ≤ length (listedIn g l)
+listed-left g zero l = omega arith
+listed-left g (suc i) [] = omega arith
+listed-left g (suc i) (e ∷ l) = go (eqb g (e .0 .0)) (listed-left g i l)
+  where
+    go : (b : Bool) → length (listedIn g (drop i l)) ≤ length (listedIn g l) → length (listedIn g (drop i l)) ≤ length (cond b (insertEntry (e .0 .1, e .1 .state) (listedIn g l)) (listedIn g l))
+    go true h = rw (entry-length (e .0 .1, e .1 .state) (listedIn g l)) (omega arith)
+    go false h = h
+
+pub listed-front : (g i n : ℕ) (rows : List (List ℕ)) → length (listedIn g (pairsFrom i n rows)) ≤ length (listedIn g (pairsOf n rows))
+listed-front g i n rows = rw (dropped i (take n rows)) (listed-left g i (pairsOf n rows))
+  where
+    dropped : (i : ℕ) (l : List (List ℕ)) → map pairOf (drop i l) ≡ drop i (map pairOf l)
+    dropped zero l = refl
+    dropped (suc i) [] = refl
+    dropped (suc i) (x ∷ l) = dropped i l
+
+-- a turn of the walk, downwards: the pair at i - 1 is of the group, or not
+module _ (g : ℕ) (rows out out₀ : List (List ℕ)) (n i k : ℕ) (a : 0 < i) (b : i ≤ n) (c : n ≤ length rows) (m : k ≡ length (listedIn g (pairsFrom i n rows))) (o : out ≡ onto (map entryRow (listedIn g (pairsFrom i n rows))) out₀) where
+  listed-turn : listedIn g (pairsFrom (i - 1) n rows) ≡ cond (eqb g (getD (getD rows (i - 1) []) 0 0)) (insertEntry (getD (getD rows (i - 1) []) 1 0, getD (getD rows (i - 1) []) 2 0) (listedIn g (pairsFrom i n rows))) (listedIn g (pairsFrom i n rows))
+  listed-turn =
+      let e : i - 1 + 1 ≡ i = omega arith in
+      rw (left-cons rows n (i - 1) [] (omega arith) c, e)
+
+  pub listed-in : (x : List ℕ) → x ≡ getD (getD rows (i - 1) []) 1 0 ∷ getD (getD rows (i - 1) []) 2 0 ∷ [] → eqb g (getD (getD rows (i - 1) []) 0 0) ≡ true → (k + 1 ≡ length (listedIn g (pairsFrom (i - 1) n rows))) × (onto (insertRow x (take k out)) out ≡ onto (map entryRow (listedIn g (pairsFrom (i - 1) n rows))) out₀)
+  listed-in x d y =
+      let e : Listed = (getD (getD rows (i - 1) []) 1 0, getD (getD rows (i - 1) []) 2 0) in
+      let l = listedIn g (pairsFrom i n rows) in
+      let t : take k out ≡ map entryRow l = rw o (take-at (map entryRow l) (drop (length (map entryRow l)) out₀) k (length-map l entryRow ∙ sym m)) in
+      rw (listed-turn, y, t, rows-insert e l, d) (
+        ap (λ (z : ℕ). z + 1) m ∙ sym (entry-length e l),
+        rw o (onto-onto (map entryRow l) (insertRow (entryRow e) (map entryRow l)) out₀ (rw (insert-length (entryRow e) (map entryRow l)) (omega arith))),
+      )
+
+  pub listed-out : eqb g (getD (getD rows (i - 1) []) 0 0) ≡ false → (k ≡ length (listedIn g (pairsFrom (i - 1) n rows))) × (out ≡ onto (map entryRow (listedIn g (pairsFrom (i - 1) n rows))) out₀)
+  listed-out y = rw (listed-turn, y) (m, o)
+
+-- ---- the list on lent contents ----
+
+-- tests and further tests
+pub first-none : (a b : List (Refusal × Bool)) → first a ≡ none → first (a ++ b) ≡ first b
+first-none [] b e = refl
+first-none (t ∷ a) b e = go (t .1) (first-none a b) e
+  where
+    go : (x : Bool) → (first a ≡ none → first (a ++ b) ≡ first b) → cond x (some (t .0)) (first a) ≡ none → cond x (some (t .0)) (first (a ++ b)) ≡ first b
+    go true h e = let z : _≡_ {A = ℕ} 0 1 = cc in absurd (omega arith)
+    go false h e = h e
+
+pub first-some : (a b : List (Refusal × Bool)) (r : Refusal) → first a ≡ some r → first (a ++ b) ≡ some r
+first-some [] b r e = let z : _≡_ {A = ℕ} 0 1 = cc in absurd (omega arith)
+first-some (t ∷ a) b r e = go (t .1) (first-some a b r) e
+  where
+    go : (x : Bool) → (first a ≡ some r → first (a ++ b) ≡ some r) → cond x (some (t .0)) (first a) ≡ some r → cond x (some (t .0)) (first (a ++ b)) ≡ some r
+    go true h e = e
+    go false h e = h e
+
+-- a reply tells the refusal
+pub reply-none : (o : Option Refusal) → Done ≡ replyOf o → o ≡ none
+reply-none none e = refl
+reply-none (some r) e = let z : _≡_ {A = ℕ} 0 1 = cc in absurd (omega arith)
+
+pub reply-some : (o : Option Refusal) (r : Refusal) → Refused r ≡ replyOf o → o ≡ some r
+reply-some none r e = let z : _≡_ {A = ℕ} 0 1 = cc in absurd (omega arith)
+reply-some (some x) r e = let q : x ≡ r = cc in ap some q
+
+module _ (c : Contents) (asker : Itsi) (group : Gtsi) (room : ℕ) where
+  pub list-refused : (r : Refusal) → Refused r ≡ replyOf (judged c (showRefusal (view (ledgerOf c)) (asker .0) (group .0))) → (members.Refused r ≡ membersOf (listOn c asker group room)) × (listOn c asker group room .entries ≡ [])
+  list-refused r e = go (isWritten c) (reply-some (judged c (showRefusal (view (ledgerOf c)) (asker .0) (group .0))) r e)
+    where
+      go : (b : Bool) → cond b (showRefusal (view (ledgerOf c)) (asker .0) (group .0)) (some NotWritten) ≡ some r → (members.Refused r ≡ membersOf (cond b (list (ledgerOf c) (asker .0) (group .0) room) (record { refused = some NotWritten; entries = [] }))) × (cond b (list (ledgerOf c) (asker .0) (group .0) room) (record { refused = some NotWritten; entries = [] }) .entries ≡ [])
+      go true q = rw (first-some (askTests (view (ledgerOf c)) (asker .0) (group .0)) ((NoRoom, ltb room (length (members (ledgerOf c) (group .0)))) ∷ []) r q) (refl, refl)
+      go false q = let z : NotWritten ≡ r = cc in (ap members.Refused (sym z), refl)
+
+  module _ (w : Sound c) (e : Done ≡ replyOf (judged c (showRefusal (view (ledgerOf c)) (asker .0) (group .0)))) (n : ℕ) (m : n ≡ length (listedIn (group .0) (ledgerOf c .pairs))) where
+    asked : showRefusal (view (ledgerOf c)) (asker .0) (group .0) ≡ none
+    asked = reply-none (showRefusal (view (ledgerOf c)) (asker .0) (group .0)) (rw (w .form) at e)
+
+    once : Single samePair (ledgerOf c .pairs)
+    once = written-form (ledgerOf c) (law-form c w) .pairs-once
+
+    last : listRefusal (view (ledgerOf c)) (asker .0) (group .0) (members (ledgerOf c) (group .0)) room ≡ cond (ltb room n) (some NoRoom) none
+    last =
+        first-none (askTests (view (ledgerOf c)) (asker .0) (group .0)) ((NoRoom, ltb room (length (members (ledgerOf c) (group .0)))) ∷ []) asked
+        ∙ ap (λ (z : ℕ). cond (ltb room z) (some NoRoom) none) (sym (m ∙ length-listed (ledgerOf c) (group .0) once))
+
+    pub list-full : room < n → (members.Refused NoRoom ≡ membersOf (listOn c asker group room)) × (listOn c asker group room .entries ≡ [])
+    list-full h = rw (w .form, last, lt-ltb room n h) (refl, refl)
+
+    pub list-taken : n ≤ room → (members.Radios n ≡ membersOf (listOn c asker group room)) × (listOn c asker group room .entries ≡ listedIn (group .0) (ledgerOf c .pairs))
+    list-taken h =
+        let q = sym (listed-members (ledgerOf c) (group .0) once) in
+        rw (w .form, last, le-ltb room n h) (ap members.Radios (m ∙ sym (ap length q)), q)

@@ -1,0 +1,108 @@
+-- Demand 3: after any history an owner's list, with room, is exactly the history's, and so is an owner's show.
+use Prim.Native.Nat.{ℕ, _≤_}
+use mathlib.Core.Path.{_≡_, refl, sym, _∙_, subst}
+use mathlib.Core.Bool.{true, false, cond, not, _&&_}
+use mathlib.Core.List.{List, []}
+use mathlib.Core.Option.{Option, none, some}
+use lib.Dec.{ltb, leb}
+use lib.ListN.{length}
+use borrow.Author.Tests.{le-ltb, not-true}
+use Rattle.rules.specs.Lists.{all, unique, present, mem, rising, Rising}
+use Rattle.rules.specs.Number.{wide}
+use Rattle.rules.specs.Parameters.{noParameters, badParameters}
+use Rattle.rules.specs.World.{World, ownersIn}
+use Rattle.rules.specs.Refusals.{accepted, showRefusal, listRefusal}
+use Rattle.rules.specs.Replies.{Listed, entries, Listing, Showing}
+use Rattle.rules.specs.Ledger.{Group, group, ownersOf, list, show}
+use Rattle.rules.specs.Written.{maxOwners, goodOwners, goodGroup}
+use Rattle.rules.specs.History.{History, namedIn, world, stands, owner, mark, radiosIn, listIn, showIn}
+use Rattle.rules.specs.Run.{run}
+use Rattle.rules.specs.Demand.{Exactly, Tells}
+use Rattle.rules.proofs.Tests.{clash, and-l, and-r}
+use Rattle.rules.proofs.ListLaws.{all-in, rising-keep, rising-rising}
+use Rattle.rules.proofs.Totals.{narrow}
+use Rattle.rules.proofs.Agree.{run-kept, run-agree, list-agree, show-agree}
+use Rattle.rules.proofs.Written.{run-form}
+use Rattle.rules.proofs.Listing.{same-entries, entries-radios, entries-say}
+
+-- ---- the history's own list ----
+
+-- the radios of a group are those with a mark
+pub radios-marked : (h : History) (g r : ℕ) → mem r (radiosIn h g) ≡ present (mark h g r)
+radios-marked h g r = sym (narrow r (λ r. present (mark h g r)) (namedIn h .radios)
+    (subst (λ (w : World). present (w .mark g r) ≡ true → mem r (namedIn h .radios) ≡ true) (run-agree h) (run-kept h .within .radios g r)))
+
+owners-owning : (h : History) (g a : ℕ) → mem a (ownersIn (world h) (namedIn h .owners) g) ≡ owner h g a
+owners-owning h g a = sym (narrow a (owner h g) (namedIn h .owners)
+    (subst (λ (w : World). w .owner g a ≡ true → mem a (namedIn h .owners) ≡ true) (run-agree h) (run-kept h .within .owners g a)))
+
+entries-exact : (h : History) (g : ℕ) → Exactly h g (entries (world h) (radiosIn h g) g)
+entries-exact h g = record {
+  rises = subst Rising (sym (entries-radios (world h) g (radiosIn h g)))
+      (rising-keep (λ r. present (mark h g r)) (rising (namedIn h .radios)) (rising-rising (namedIn h .radios)));
+  says = entries-say (world h) g (radiosIn h g) (radios-marked h g);
+}
+
+-- ---- an owner is not refused ----
+
+-- an owner and its group are numbers of 24 bits, and the group stands
+owner-known : (h : History) (g a : ℕ) → owner h g a ≡ true → (wide a ≡ false) × (wide g ≡ false) × (stands h g ≡ true)
+owner-known h g a = subst (λ (w : World). w .owner g a ≡ true → (wide a ≡ false) × (wide g ≡ false) × (w .stands g ≡ true)) (run-agree h)
+    (known (group (run h) g) (run-form h .groups g))
+  where
+    known : (o : Option Group) → ((x : Group) → o ≡ some x → goodGroup (g, x) ≡ true) → mem a (ownersOf o) ≡ true
+        → (wide a ≡ false) × (wide g ≡ false) × (present o ≡ true)
+    known none f e = clash (sym e)
+    known (some x) f e =
+        let k = f x refl in
+        let few = ltb 0 (length (x .owners)) in
+        let many = leb (length (x .owners)) maxOwners in
+        let narrow = all (λ a. not (wide a)) (x .owners) in
+        let owners = and-l (goodOwners (x .owners)) (not (badParameters (x .parameters)))
+        (and-r (not (wide g)) (goodOwners (x .owners) && not (badParameters (x .parameters))) k) in
+        let all-narrow = and-r (unique (x .owners)) narrow (and-r many (unique (x .owners) && narrow) (and-r few (many && (unique (x .owners) && narrow)) owners)) in (
+          not-true (wide a) (all-in (λ a. not (wide a)) a (x .owners) all-narrow e),
+          not-true (wide g) (and-l (not (wide g)) (goodOwners (x .owners) && not (badParameters (x .parameters))) k),
+          refl,
+        )
+
+-- ---- the demand ----
+
+-- by an owner, with room for the group's radios: the list is accepted, and is exactly the history's
+pub list-exact : (h : History) (asker g room : ℕ) → owner h g asker ≡ true → length (radiosIn h g) ≤ room
+    → (list (run h) asker g room .refused ≡ none) × Exactly h g (list (run h) asker g room .entries)
+list-exact h asker g room o n =
+    subst (λ (l : Listing). (l .refused ≡ none) × Exactly h g (l .entries)) (sym (list-agree h asker g room ∙ told-all)) (refl, entries-exact h g)
+  where
+    taken : listRefusal (world h) asker g (radiosIn h g) room ≡ none
+    taken = let k = owner-known h g asker o in cc (k .0, k .1, k .2, le-ltb room (length (radiosIn h g)) n)
+
+    told-all : listIn h asker g room ≡ record { refused = none; entries = entries (world h) (radiosIn h g) g }
+    told-all = λ i. record { refused = taken i; entries = cond (accepted (taken i)) (entries (world h) (radiosIn h g) g) [] }
+
+-- by an owner: the show is accepted, and tells what the history says
+pub show-exact : (h : History) (asker g : ℕ) → owner h g asker ≡ true
+    → (show (run h) asker g .refused ≡ none) × Tells h g (show (run h) asker g .owners) (show (run h) asker g .parameters)
+show-exact h asker g o =
+    subst (λ (s : Showing). (s .refused ≡ none) × Tells h g (s .owners) (s .parameters)) (sym (show-agree h asker g ∙ told-all)) (
+      refl,
+      record {
+        rises = rising-keep (owner h g) (rising (namedIn h .owners)) (rising-rising (namedIn h .owners));
+        owns = owners-owning h g;
+        has = refl;
+      },
+    )
+  where
+    taken : showRefusal (world h) asker g ≡ none
+    taken = let k = owner-known h g asker o in cc (k .0, k .1, k .2)
+
+    told-all : showIn h asker g ≡ record { refused = none; owners = ownersIn (world h) (namedIn h .owners) g; parameters = world h .parameters g }
+    told-all = λ i. record {
+      refused = taken i;
+      owners = cond (accepted (taken i)) (ownersIn (world h) (namedIn h .owners) g) [];
+      parameters = cond (accepted (taken i)) (world h .parameters g) noParameters;
+    }
+
+-- only one list is exact
+pub exactly-unique : (h : History) (g : ℕ) (a b : List Listed) → Exactly h g a → Exactly h g b → a ≡ b
+exactly-unique h g a b p q = same-entries a b (p .rises) (q .rises) (λ x. p .says x ∙ sym (q .says x))

@@ -1,0 +1,149 @@
+-- The rows of the DEFINE table at the places that the ledger reads.
+use Prim.Native.Nat.{ℕ, zero, suc, _+_, _*_, _<_}
+use mathlib.Core.Path.{_≡_, refl, sym, _∙_, ap}
+use mathlib.Core.Bool.{false}
+use mathlib.Core.List.{List, [], _∷_, _++_}
+use lib.Dec.{leb}
+use lib.ListN.{length, getD, drop}
+use lib.Seq.{getD-drop}
+use native.Mathlib.Omega.{arith}
+use Rattle.frame.specs.declared.Kind.the-variants as kind
+use Rattle.frame.specs.declared.Items.the-variants.{Numbers, Letters}
+use Rattle.frame.specs.Row.{Condition, is, atLeast, Row, nothing}
+use Rattle.frame.specs.Shape.{number, choice, least, rowsOf, repeated, span, spans, unrolled}
+use Rattle.frame.specs.Table.{define}
+use Rattle.frame.specs.Frame.{rows}
+use Rattle.rules.specs.Recorded.{groupGiven, groupNumbers, optionsFollow, setReference, ownersIncluded, ownerNumbers, acknowledgedCall, broadcast, letterCount, letters, assignment, radioNumbers, classOfUsage, attachmentLifetime, temporaryAssignment}
+
+abbrev pub table : List Row
+table = rows kind.Define
+
+abbrev pub rowAt : ℕ → Row
+rowAt k = getD table k nothing
+
+pub all-rows : length table ≡ 166
+unfolding rows define unrolled rowsOf repeated span spans
+all-rows = refl
+
+-- ---- an optional element: its P-bit at k, which hangs on the O-bit at 45, and its value behind it ----
+
+pub record Optional (k : ℕ) (r : Row) : Type 0 where
+  pub after : optionsFollow < k
+  pub within : k + 1 < 166
+  pub flag : rowAt k ≡ number 1 (is optionsFollow 1 ∷ [])
+  pub value : rowAt (k + 1) ≡ r
+  pub codes : leb (r .codes) 1 ≡ false
+  pub hangs : r .hang ≡ is k 1 ∷ []
+
+pub o-bit-at : rowAt optionsFollow ≡ number 1 []
+unfolding rows define unrolled rowsOf repeated span spans
+o-bit-at = refl
+
+pub set-reference-at : Optional setReference (number 3 (is setReference 1 ∷ []))
+unfolding rows define unrolled rowsOf repeated span spans
+set-reference-at = record { after = omega arith; within = omega arith; flag = refl; value = refl; codes = refl; hangs = refl }
+
+pub owners-included-at : Optional ownersIncluded (choice 1 2 (is ownersIncluded 1 ∷ []))
+unfolding rows define unrolled rowsOf repeated span spans
+owners-included-at = record { after = omega arith; within = omega arith; flag = refl; value = refl; codes = refl; hangs = refl }
+
+pub acknowledged-call-at : Optional acknowledgedCall (choice 1 2 (is acknowledgedCall 1 ∷ []))
+unfolding rows define unrolled rowsOf repeated span spans
+acknowledged-call-at = record { after = omega arith; within = omega arith; flag = refl; value = refl; codes = refl; hangs = refl }
+
+pub broadcast-at : Optional broadcast (choice 1 2 (is broadcast 1 ∷ []))
+unfolding rows define unrolled rowsOf repeated span spans
+broadcast-at = record { after = omega arith; within = omega arith; flag = refl; value = refl; codes = refl; hangs = refl }
+
+pub letter-count-at : Optional letterCount (choice 4 16 (is letterCount 1 ∷ []))
+unfolding rows define unrolled rowsOf repeated span spans
+letter-count-at = record { after = omega arith; within = omega arith; flag = refl; value = refl; codes = refl; hangs = refl }
+
+pub assignment-at : Optional assignment (choice 1 2 (is assignment 1 ∷ []))
+unfolding rows define unrolled rowsOf repeated span spans
+assignment-at = record { after = omega arith; within = omega arith; flag = refl; value = refl; codes = refl; hangs = refl }
+
+pub class-of-usage-at : Optional classOfUsage (number 3 (is classOfUsage 1 ∷ []))
+unfolding rows define unrolled rowsOf repeated span spans
+class-of-usage-at = record { after = omega arith; within = omega arith; flag = refl; value = refl; codes = refl; hangs = refl }
+
+pub attachment-lifetime-at : Optional attachmentLifetime (number 2 (is attachmentLifetime 1 ∷ []))
+unfolding rows define unrolled rowsOf repeated span spans
+attachment-lifetime-at = record { after = omega arith; within = omega arith; flag = refl; value = refl; codes = refl; hangs = refl }
+
+pub temporary-assignment-at : Optional temporaryAssignment (number 3 (is temporaryAssignment 1 ∷ []))
+unfolding rows define unrolled rowsOf repeated span spans
+temporary-assignment-at = record { after = omega arith; within = omega arith; flag = refl; value = refl; codes = refl; hangs = refl }
+
+-- ---- a list of items: its count at t, its items behind it ----
+
+module _ (t : ℕ) (rest : List Row) where
+  -- the forms of identities: item j of n, the first of which is item i and begins at the place p
+  form-rows : (p i n j : ℕ) → j < n → getD (repeated Numbers t p i n ++ rest) (4 * j) nothing ≡ choice 2 3 (atLeast t (least Numbers (i + j)) ∷ [])
+  unfolding repeated
+  form-rows p i zero j h = absurd (omega arith)
+  form-rows p i (suc n) zero h = let e : i ≡ i + 0 = omega arith in ap (λ (x : ℕ). choice 2 3 (atLeast t (least Numbers x) ∷ [])) e
+  form-rows p i (suc n) (suc j) h =
+      let e : 4 * suc j ≡ suc (suc (suc (suc (4 * j)))) = omega arith in
+      let f : i + 1 + j ≡ i + suc j = omega arith in
+      ap (λ (x : ℕ). getD (repeated Numbers t p i (suc n) ++ rest) x nothing) e
+      ∙ form-rows (p + 4) (i + 1) n j (omega arith) ∙ ap (λ (x : ℕ). choice 2 3 (atLeast t (least Numbers x) ∷ [])) f
+
+  -- their SSIs
+  ssi-rows : (p i n j : ℕ) → j < n → getD (repeated Numbers t p i n ++ rest) (4 * j + 2) nothing ≡ number 24 (atLeast (p + 4 * j) 2 ∷ [])
+  unfolding repeated
+  ssi-rows p i zero j h = absurd (omega arith)
+  ssi-rows p i (suc n) zero h = let e : p ≡ p + 4 * 0 = omega arith in ap (λ (x : ℕ). number 24 (atLeast x 2 ∷ [])) e
+  ssi-rows p i (suc n) (suc j) h =
+      let e : 4 * suc j + 2 ≡ suc (suc (suc (suc (4 * j + 2)))) = omega arith in
+      let f : p + 4 + 4 * j ≡ p + 4 * suc j = omega arith in
+      ap (λ (x : ℕ). getD (repeated Numbers t p i (suc n) ++ rest) x nothing) e
+      ∙ ssi-rows (p + 4) (i + 1) n j (omega arith) ∙ ap (λ (x : ℕ). number 24 (atLeast x 2 ∷ [])) f
+
+  letter-rows : (p i n j : ℕ) → j < n → getD (repeated Letters t p i n ++ rest) j nothing ≡ number 8 (atLeast t (i + j + 1) ∷ [])
+  unfolding repeated
+  letter-rows p i zero j h = absurd (omega arith)
+  letter-rows p i (suc n) zero h = let e : i + 1 ≡ i + 0 + 1 = omega arith in ap (λ (x : ℕ). number 8 (atLeast t x ∷ [])) e
+  letter-rows p i (suc n) (suc j) h =
+      let f : i + 1 + j + 1 ≡ i + suc j + 1 = omega arith in
+      letter-rows (p + 1) (i + 1) n j (omega arith) ∙ ap (λ (x : ℕ). number 8 (atLeast t x ∷ [])) f
+
+pub record ListAt (t : ℕ) (hang : List Condition) : Type 0 where
+  pub count : rowAt t ≡ choice 4 11 hang
+  pub form : (j : ℕ) → j < 10 → rowAt (t + 1 + 4 * j) ≡ choice 2 3 (atLeast t (least Numbers j) ∷ [])
+  pub ssi : (j : ℕ) → j < 10 → rowAt (t + 1 + 4 * j + 2) ≡ number 24 (atLeast (t + 1 + 4 * j) 2 ∷ [])
+
+list-at : (t : ℕ) (hang : List Condition) → rowAt t ≡ choice 4 11 hang → drop (t + 1) table ≡ repeated Numbers t (t + 1) 0 10 ++ drop (t + 41) table → ListAt t hang
+list-at t hang c d = record {
+  count = c;
+  form = λ j h. let e : 0 + j ≡ j = omega arith in
+      sym (getD-drop (t + 1) table (4 * j) nothing) ∙ ap (λ (l : List Row). getD l (4 * j) nothing) d
+      ∙ form-rows t (drop (t + 41) table) (t + 1) 0 10 j h ∙ ap (λ (x : ℕ). choice 2 3 (atLeast t (least Numbers x) ∷ [])) e;
+  ssi = λ j h. let e : t + 1 + 4 * j + 2 ≡ t + 1 + (4 * j + 2) = omega arith in
+      ap rowAt e ∙ sym (getD-drop (t + 1) table (4 * j + 2) nothing) ∙ ap (λ (l : List Row). getD l (4 * j + 2) nothing) d
+      ∙ ssi-rows t (drop (t + 41) table) (t + 1) 0 10 j h;
+}
+
+pub given-at : rowAt groupGiven ≡ choice 1 2 []
+unfolding rows define unrolled rowsOf repeated span spans
+given-at = refl
+
+pub groups-at : ListAt groupNumbers (is groupGiven 1 ∷ [])
+unfolding rows define unrolled rowsOf repeated span spans
+groups-at = list-at groupNumbers (is groupGiven 1 ∷ []) refl refl
+
+pub owners-at : ListAt ownerNumbers (is (ownersIncluded + 1) 1 ∷ [])
+unfolding rows define unrolled rowsOf repeated span spans
+owners-at = list-at ownerNumbers (is (ownersIncluded + 1) 1 ∷ []) refl refl
+
+pub radios-at : ListAt radioNumbers (is (assignment + 1) 1 ∷ [])
+unfolding rows define unrolled rowsOf repeated span spans
+radios-at = list-at radioNumbers (is (assignment + 1) 1 ∷ []) refl refl
+
+pub letter-at : (j : ℕ) → j < 16 → rowAt (letters + j) ≡ number 8 (atLeast (letterCount + 1) (j + 1) ∷ [])
+unfolding rows define unrolled rowsOf repeated span spans
+letter-at j h =
+    let d : drop letters table ≡ repeated Letters (letterCount + 1) letters 0 16 ++ drop assignment table = refl in
+    let e : 0 + j + 1 ≡ j + 1 = omega arith in
+    sym (getD-drop letters table j nothing) ∙ ap (λ (l : List Row). getD l j nothing) d
+    ∙ letter-rows (letterCount + 1) (drop assignment table) letters 0 16 j h ∙ ap (λ (x : ℕ). number 8 (atLeast (letterCount + 1) x ∷ [])) e

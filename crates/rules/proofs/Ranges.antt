@@ -1,0 +1,137 @@
+-- What passed the tests of BadOrder and FormNotTaken is within the ranges of the written form.
+use Prim.Native.Nat.{ℕ, zero, suc, _+_, _≤_, _<_}
+use mathlib.Core.Path.{_≡_, refl, sym, _∙_, ap}
+use mathlib.Core.Bool.{Bool, true, false, not, _&&_}
+use mathlib.Core.List.{List, [], _∷_, map}
+use mathlib.Core.Option.{Option, none, some}
+use lib.Dec.{eqb, ltb, leb}
+use lib.ListN.{length, take}
+use native.Mathlib.Omega.{arith}
+use borrow.Author.Tests.{eqb-true, eqb-false, ltb-false, leb-false, le-leb, lt-ltb}
+use Rattle.rules.specs.Lists.{any, mem, once}
+use Rattle.rules.specs.Number.{Identity, Numbers, count, used, key, numbers, numbersIn, wide, badIdentity, badList, untaken}
+use Rattle.rules.specs.Parameters.{Parameters, over, replaced, tooLarge, badName, badParameters}
+use Rattle.rules.specs.Mark.{Mark, waiting, T1, begun, ticked}
+use Rattle.rules.specs.Written.{goodOwners, maxOwners, goodMark}
+use Rattle.rules.proofs.Tests.{split, clash, and-in, or-l, or-r, not-in}
+use Rattle.rules.proofs.ListLaws.{mem-once, once-once, unique-once, all-mem, length-once, any-no}
+
+-- ---- numbers ----
+
+-- the forms that carry an SSI
+ssi-narrow : (i : Identity) → badIdentity i ≡ false → eqb (i .form) 0 ≡ false → wide (i .ssi) ≡ false
+ssi-narrow i b f = cc (or-r (ltb 2 (i .form)) (ltb 0 (i .form) && wide (i .ssi)) b, lt-ltb 0 (i .form) (positive (i .form) (eqb-false (i .form) 0 f)))
+  where
+    positive : (n : ℕ) → (n ≡ 0 → ⊥) → 0 < n
+    positive n h = omega arith
+
+keys-narrow : (l : List Identity) → any badIdentity l ≡ false → any (λ (i : Identity). eqb (i .form) 0) l ≡ false
+    → (x : ℕ) → mem x (map key l) ≡ true → wide x ≡ false
+keys-narrow [] b f x e = clash (sym e)
+keys-narrow (i ∷ l) b f x e = split (eqb x (key i))
+    (λ q. ap wide (eqb-true x (key i) q) ∙ ssi-narrow i (any-no badIdentity i l b .0) (any-no (λ (i : Identity). eqb (i .form) 0) i l f .0))
+    (λ q. keys-narrow l (any-no badIdentity i l b .1) (any-no (λ (i : Identity). eqb (i .form) 0) i l f .1) x (cc))
+
+-- a list that passed both has numbers of 24 bits
+pub numbers-narrow : (n : Option Numbers) → badList n ≡ false → untaken n ≡ false → (x : ℕ) → mem x (numbersIn n) ≡ true → wide x ≡ false
+unfolding numbers
+numbers-narrow none b u x e = clash (sym e)
+numbers-narrow (some n) b u x e =
+    keys-narrow (used n) (or-r (ltb 10 (n .code)) (any badIdentity (used n)) b) (or-r (eqb (n .code) 1) (any (λ (i : Identity). eqb (i .form) 0) (used n)) u)
+    x (sym (mem-once x (map key (used n))) ∙ e)
+
+length-used : (n : ℕ) (l : List Identity) → length (map key (take n l)) ≤ n
+length-used zero l = omega arith
+length-used (suc n) [] = omega arith
+length-used (suc n) (i ∷ l) = let h = length-used n l in omega arith
+
+-- a list that passed has at most ten numbers
+pub numbers-few : (n : Option Numbers) → badList n ≡ false → length (numbersIn n) ≤ 10
+unfolding numbers
+numbers-few none b = omega arith
+numbers-few (some n) b =
+    let h = few (n .code) (ltb-false 10 (n .code) (or-l (ltb 10 (n .code)) (any badIdentity (used n)) b)) in
+    let a = length-once (map key (used n)) in
+    let u = length-used (count (n .code)) (n .places) in
+    omega arith
+  where
+    few : (c : ℕ) → c ≤ 10 → count c ≤ 10
+    few c h = split (eqb c 0) (λ e. rw e (omega arith)) (λ e. rw e (split (eqb c 1) (λ f. rw f (omega arith)) (λ f. rw f h)))
+
+-- ---- owners ----
+
+pub owners-good : (asker : ℕ) (l : List ℕ) → wide asker ≡ false → length l ≤ 10 → ((x : ℕ) → mem x l ≡ true → wide x ≡ false)
+    → goodOwners (once (asker ∷ l)) ≡ true
+owners-good asker l a h n =
+    and-in (lt-ltb 0 (length (once (asker ∷ l))) (omega arith))
+    (and-in (le-leb (length (once (asker ∷ l))) maxOwners (let k = length-once (asker ∷ l) in omega arith))
+    (and-in (unique-once (once (asker ∷ l)) (once-once (asker ∷ l)))
+    (all-mem (λ a. not (wide a)) (once (asker ∷ l)) (λ x e. not-in (wide x) (each x (sym (mem-once x (asker ∷ l)) ∙ e))))))
+  where
+    each : (x : ℕ) → mem x (asker ∷ l) ≡ true → wide x ≡ false
+    each x e = split (eqb x asker) (λ f. ap wide (eqb-true x asker f) ∙ a) (λ f. n x (cc))
+
+-- ---- parameters ----
+
+over-small : (codes : ℕ) (new old : Option ℕ) → tooLarge codes new ≡ false → tooLarge codes old ≡ false → tooLarge codes (over new old) ≡ false
+over-small codes none old p q = q
+over-small codes (some v) old p q = p
+
+over-name : (new old : Option (List ℕ)) → badName new ≡ false → badName old ≡ false → badName (over new old) ≡ false
+over-name none old p q = q
+over-name (some v) old p q = p
+
+-- a list of seven tests none of which holds
+seven : (a b c d e f g : Bool) → any (λ (b : Bool). b) (a ∷ b ∷ c ∷ d ∷ e ∷ f ∷ g ∷ []) ≡ false
+    → (a ≡ false) × (b ≡ false) × (c ≡ false) × (d ≡ false) × (e ≡ false) × (f ≡ false) × (g ≡ false)
+seven a b c d e f g h =
+    let h₁ = any-no (λ (b : Bool). b) a (b ∷ c ∷ d ∷ e ∷ f ∷ g ∷ []) h in
+    let h₂ = any-no (λ (b : Bool). b) b (c ∷ d ∷ e ∷ f ∷ g ∷ []) (h₁ .1) in
+    let h₃ = any-no (λ (b : Bool). b) c (d ∷ e ∷ f ∷ g ∷ []) (h₂ .1) in
+    let h₄ = any-no (λ (b : Bool). b) d (e ∷ f ∷ g ∷ []) (h₃ .1) in
+    let h₅ = any-no (λ (b : Bool). b) e (f ∷ g ∷ []) (h₄ .1) in
+    let h₆ = any-no (λ (b : Bool). b) f (g ∷ []) (h₅ .1) in
+    (h₁ .0, h₂ .0, h₃ .0, h₄ .0, h₅ .0, h₆ .0, any-no (λ (b : Bool). b) g [] (h₆ .1) .0)
+
+-- each parameter is within its range
+pub record InRange (p : Parameters) : Type 0 where
+  pub setReference : tooLarge 8 (p .setReference) ≡ false
+  pub acknowledgedCall : tooLarge 2 (p .acknowledgedCall) ≡ false
+  pub broadcast : tooLarge 2 (p .broadcast) ≡ false
+  pub name : badName (p .name) ≡ false
+  pub class : tooLarge 8 (p .class) ≡ false
+  pub lifetime : tooLarge 4 (p .lifetime) ≡ false
+  pub temporary : tooLarge 8 (p .temporary) ≡ false
+
+pub in-range : (p : Parameters) → badParameters p ≡ false → InRange p
+in-range p h =
+    let t = seven (tooLarge 8 (p .setReference)) (tooLarge 2 (p .acknowledgedCall)) (tooLarge 2 (p .broadcast)) (badName (p .name))
+    (tooLarge 8 (p .class)) (tooLarge 4 (p .lifetime)) (tooLarge 8 (p .temporary)) h in
+    record { setReference = t .0; acknowledgedCall = t .1; broadcast = t .2; name = t .3; class = t .4; lifetime = t .5; temporary = t .6 }
+
+pub replaced-good : (new old : Parameters) → badParameters new ≡ false → badParameters old ≡ false → badParameters (replaced new old) ≡ false
+replaced-good new old h k =
+    let a = in-range new h in
+    let b = in-range old k in
+    cc (
+      over-small 8 (new .setReference) (old .setReference) (a .setReference) (b .setReference),
+      over-small 2 (new .acknowledgedCall) (old .acknowledgedCall) (a .acknowledgedCall) (b .acknowledgedCall),
+      over-small 2 (new .broadcast) (old .broadcast) (a .broadcast) (b .broadcast),
+      over-name (new .name) (old .name) (a .name) (b .name),
+      over-small 8 (new .class) (old .class) (a .class) (b .class),
+      over-small 4 (new .lifetime) (old .lifetime) (a .lifetime) (b .lifetime),
+      over-small 8 (new .temporary) (old .temporary) (a .temporary) (b .temporary),
+    )
+
+-- ---- marks ----
+
+pub begun-good : (acknowledgement : Bool) → goodMark (begun acknowledgement) ≡ true
+begun-good true = refl
+begun-good false = refl
+
+pub ticked-good : (m : Mark) → goodMark m ≡ true → goodMark (ticked m) ≡ true
+ticked-good m h = split (eqb (m .state) waiting)
+    (λ e. split (leb T1 (m .ticks + 1))
+    (λ f. cc)
+    (λ f. cc (lt-ltb (m .ticks + 1) T1 (leb-false T1 (m .ticks + 1) f))))
+    (λ e. cc)

@@ -1,0 +1,59 @@
+-- What an accepted step does. It is stated once: World says what it makes of what stands, Ledger what it makes of the lists.
+use Prim.Native.Nat.{ℕ}
+use mathlib.Core.Bool.{Bool, true, false, cond, not, _&&_}
+use mathlib.Core.List.{List, []}
+use mathlib.Core.Option.{Option, none, some}
+use lib.Dec.{eqb}
+use Rattle.rules.specs.Lists.{present, mem}
+use Rattle.rules.specs.Parameters.{Parameters, noParameters}
+use Rattle.rules.specs.Mark.{Mark, noneWanted, fresh, begun, ticked, answered}
+use Rattle.rules.specs.Order.{Step, define, delete, answer, tick, defineGroups, defineRadios, defineOwners, deleteGroups, leaves}
+
+pub record Effect : Type 0 where
+  -- the groups made where they are missing; they take the owners and the parameters
+  pub makes : List ℕ
+  -- whether such a group that was there keeps its owners
+  pub keeps : Bool
+  pub owners : List ℕ
+  pub parameters : Parameters
+  -- the radios that are set in each of those groups, and how
+  pub assigns : List ℕ
+  pub begins : Mark
+  -- the groups that go
+  pub removes : ℕ → Bool
+  -- what becomes of the mark of a group and a radio that are a pair; none takes the pair away
+  pub turns : ℕ → ℕ → Mark → Option Mark
+
+-- no group is made or assigned: groups go, and pairs turn
+abbrev pub only : (ℕ → Bool) → (ℕ → ℕ → Mark → Option Mark) → Effect
+only removes turns = record {
+  makes = [];
+  keeps = true;
+  owners = [];
+  parameters = noParameters;
+  assigns = [];
+  begins = fresh noneWanted;
+  removes = removes;
+  turns = turns;
+}
+
+abbrev pub effect : Step → Effect
+effect (define o room) = record {
+  makes = defineGroups o;
+  keeps = not (present (o .owners));
+  owners = defineOwners o;
+  parameters = o .parameters;
+  assigns = defineRadios o;
+  begins = begun (o .acknowledgement);
+  removes = λ g. false;
+  turns = λ g r m. some m;
+}
+effect (delete o room) = only
+    (λ g. o .delete && mem g (deleteGroups o))
+    (λ g r m. cond (mem g (deleteGroups o) && leaves o r) none (some m))
+effect (answer a) = only
+    (λ g. false)
+    (λ g r m. cond (eqb g (a .group) && eqb r (a .radio)) (answered (a .result)) (some m))
+effect tick = only
+    (λ g. false)
+    (λ g r m. some (ticked m))

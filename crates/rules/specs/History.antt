@@ -1,0 +1,82 @@
+-- What a history means, by document 01's rules alone: what stands after it, what is refused and what is replied. No ledger is kept.
+use Prim.Native.Nat.{ℕ}
+use mathlib.Core.Bool.{Bool, cond}
+use mathlib.Core.List.{List, [], _++_}
+use mathlib.Core.Option.{Option}
+use Rattle.refusal.specs.declared.Refusal.{Refusal}
+use Rattle.rules.specs.Mark.{Mark}
+use Rattle.rules.specs.Order.{Step}
+use Rattle.rules.specs.Effect.{Effect, effect}
+use Rattle.rules.specs.World.{World, nothing, after, membersIn, ownersIn, groupTotal, pairTotal, Tally}
+use Rattle.rules.specs.Outgoing.{Outgoing, outgoing}
+use Rattle.rules.specs.Refusals.{accepted, refusal}
+use Rattle.rules.specs.Replies.{Listing, listing, Showing, showing}
+
+infixl 20 _then_
+-- any run of steps from empty, refused ones among them
+pub data History : Type 0 where
+  start : History
+  _then_ : History → Step → History
+
+-- ---- the numbers named, over which members and totals are counted ----
+
+pub record Named : Type 0 where
+  pub groups : List ℕ
+  pub radios : List ℕ
+  pub owners : List ℕ
+
+abbrev pub named : Effect → Named → Named
+named e n = record { groups = e .makes ++ n .groups; radios = e .assigns ++ n .radios; owners = e .owners ++ n .owners }
+
+abbrev pub namedIn : History → Named
+namedIn start = record { groups = []; radios = []; owners = [] }
+namedIn (h then s) = named (effect s) (namedIn h)
+
+abbrev pub tallyIn : World → Named → Effect → Tally
+tallyIn w n e = record {
+  members = membersIn w (n .radios);
+  groups = groupTotal (after w e) (n .groups);
+  pairs = pairTotal (after w e) (n .groups) (n .radios);
+}
+
+-- ---- what stands ----
+
+abbrev pub judge : World → Named → Step → Option Refusal
+judge w n s = refusal w (tallyIn w n (effect s)) s
+
+-- an accepted step has its effect, a refused one has none
+abbrev pub taken : World → Named → Step → World
+taken w n s = cond (accepted (judge w n s)) (after w (effect s)) w
+
+abbrev pub world : History → World
+world start = nothing
+world (h then s) = taken (world h) (namedIn (h then s)) s
+
+abbrev pub stands : History → ℕ → Bool
+stands h = world h .stands
+
+abbrev pub owner : History → ℕ → ℕ → Bool
+owner h = world h .owner
+
+abbrev pub mark : History → ℕ → ℕ → Option Mark
+mark h = world h .mark
+
+-- the radios of a group, rising
+abbrev pub radiosIn : History → ℕ → List ℕ
+radiosIn h = membersIn (world h) (namedIn h .radios)
+
+-- ---- what is replied after the history ----
+
+-- the refusal of a further step; none where it is accepted
+abbrev pub refusalIn : History → Step → Option Refusal
+refusalIn h s = judge (world h) (namedIn (h then s)) s
+
+-- what goes out for it: nothing on a refusal
+abbrev pub sentIn : History → Step → List Outgoing
+sentIn h s = cond (accepted (refusalIn h s)) (outgoing (world h) (tallyIn (world h) (namedIn (h then s)) (effect s)) s) []
+
+abbrev pub listIn : History → ℕ → ℕ → ℕ → Listing
+listIn h asker g room = listing (world h) asker g (radiosIn h g) room
+
+abbrev pub showIn : History → ℕ → ℕ → Showing
+showIn h asker g = showing (world h) asker g (ownersIn (world h) (namedIn h .owners) g)

@@ -1,0 +1,68 @@
+-- The orders of document 01: define, delete, answer and tick.
+use Prim.Native.Nat.{ℕ}
+use mathlib.Core.Bool.{Bool, true, cond, _&&_, _||_}
+use mathlib.Core.List.{List, _∷_}
+use mathlib.Core.Option.{Option}
+use Rattle.frame.specs.declared.Judged.{Judged}
+use Rattle.rules.specs.Lists.{present, mem, once}
+use Rattle.rules.specs.Number.{Numbers, numbers, numbersIn}
+use Rattle.rules.specs.Parameters.{Parameters}
+
+-- judged: what the frame half says of the DEFINE record. call: call related.
+-- A list is none where it is absent, or where its element says "no".
+pub record Define : Type 0 where
+  pub asker : ℕ
+  pub judged : Judged
+  pub call : Bool
+  pub groups : Option Numbers
+  pub owners : Option Numbers
+  pub radios : Option Numbers
+  pub acknowledgement : Bool
+  pub parameters : Parameters
+
+-- radios: none where none are listed
+pub record Delete : Type 0 where
+  pub asker : ℕ
+  pub groups : Numbers
+  pub delete : Bool
+  pub deassign : Bool
+  pub radios : Option Numbers
+
+pub record Answer : Type 0 where
+  pub radio : ℕ
+  pub group : ℕ
+  pub result : ℕ
+
+-- an order that may change the ledger; the number is the room lent, in outgoing orders
+pub data Step : Type 0 where
+  define : Define → ℕ → Step
+  delete : Delete → ℕ → Step
+  answer : Answer → Step
+  tick : Step
+
+-- ---- the numbers that an order names ----
+
+abbrev pub defineGroups : Define → List ℕ
+defineGroups o = numbersIn (o .groups)
+
+-- those of "assign"
+abbrev pub defineRadios : Define → List ℕ
+defineRadios o = numbersIn (o .radios)
+
+-- "asker plus those listed"
+abbrev pub defineOwners : Define → List ℕ
+defineOwners o = once (o .asker ∷ numbersIn (o .owners))
+
+abbrev pub deleteGroups : Delete → List ℕ
+deleteGroups o = numbers (o .groups)
+
+abbrev pub deleteRadios : Delete → List ℕ
+deleteRadios o = numbersIn (o .radios)
+
+-- "listed radios .. or all members if none are listed"
+abbrev pub deassigns : Delete → ℕ → Bool
+deassigns o r = o .deassign && cond (present (o .radios)) (mem r (deleteRadios o)) true
+
+-- whether this radio's pairs with the named groups go: with the group, or by deassignment
+abbrev pub leaves : Delete → ℕ → Bool
+leaves o r = o .delete || deassigns o r

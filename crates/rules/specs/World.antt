@@ -1,0 +1,56 @@
+-- What stands at a point of the history, one group, one owner, one pair at a time; and what is counted over it.
+use Prim.Native.Nat.{ℕ}
+use mathlib.Core.Bool.{Bool, false, cond, not, _&&_, _||_}
+use mathlib.Core.List.{List}
+use mathlib.Core.Option.{Option, none, some}
+use lib.ListN.{length}
+use Rattle.rules.specs.Lists.{keep, present, turned, mem, rising, sum}
+use Rattle.rules.specs.Parameters.{Parameters, noParameters, replaced}
+use Rattle.rules.specs.Mark.{Mark}
+use Rattle.rules.specs.Effect.{Effect}
+
+-- stands g: the group is there. owner g a: a owns it. mark g r: the pair's mark, none where there is no pair
+pub record World : Type 0 where
+  pub stands : ℕ → Bool
+  pub owner : ℕ → ℕ → Bool
+  pub parameters : ℕ → Parameters
+  pub mark : ℕ → ℕ → Option Mark
+
+abbrev pub nothing : World
+nothing = record { stands = λ g. false; owner = λ g a. false; parameters = λ g. noParameters; mark = λ g r. none }
+
+-- what an accepted step makes of each fact
+abbrev pub after : World → Effect → World
+after w e = record {
+  stands = λ g. mem g (e .makes) || (not (e .removes g) && w .stands g);
+  owner = λ g a. cond (mem g (e .makes))
+      (cond (w .stands g && e .keeps) (w .owner g a) (mem a (e .owners)))
+      (not (e .removes g) && w .owner g a);
+  parameters = λ g. cond (mem g (e .makes))
+      (replaced (e .parameters) (w .parameters g))
+      (cond (e .removes g) noParameters (w .parameters g));
+  mark = λ g r. cond (mem g (e .makes) && mem r (e .assigns))
+      (some (e .begins))
+      (turned (e .turns g r) (w .mark g r));
+}
+
+-- ---- lists and totals, over the numbers named so far ----
+
+-- the radios of a group, rising
+abbrev pub membersIn : World → List ℕ → ℕ → List ℕ
+membersIn w radios g = keep (λ r. present (w .mark g r)) (rising radios)
+
+abbrev pub ownersIn : World → List ℕ → ℕ → List ℕ
+ownersIn w owners g = keep (w .owner g) (rising owners)
+
+abbrev pub groupTotal : World → List ℕ → ℕ
+groupTotal w groups = length (keep (w .stands) (rising groups))
+
+abbrev pub pairTotal : World → List ℕ → List ℕ → ℕ
+pairTotal w groups radios = sum (λ g. length (membersIn w radios g)) (rising groups)
+
+-- what the refusals and the outgoing orders ask besides: each group's members, rising; the totals after the order
+pub record Tally : Type 0 where
+  pub members : ℕ → List ℕ
+  pub groups : ℕ
+  pub pairs : ℕ

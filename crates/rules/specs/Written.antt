@@ -1,0 +1,37 @@
+-- The written form, behind refusal 18: "every count within its room and every value within its range here, each group with
+-- an owner, no group, pair or owner of a group twice, each pair's group there".
+use Prim.Native.Nat.{ℕ}
+use mathlib.Core.Bool.{Bool, cond, not, _&&_}
+use mathlib.Core.List.{List}
+use lib.Dec.{eqb, ltb, leb}
+use lib.ListN.{length}
+use Rattle.rules.specs.Lists.{all, unique, present}
+use Rattle.rules.specs.Entries.{distinct}
+use Rattle.rules.specs.Number.{wide}
+use Rattle.rules.specs.Parameters.{badParameters}
+use Rattle.rules.specs.Mark.{Mark, waiting, unheard, T1}
+use Rattle.rules.specs.Refusals.{maxGroups, maxPairs}
+use Rattle.rules.specs.Ledger.{Group, Pair, samePair, Ledger, group}
+
+-- the asker and at most ten listed
+abbrev pub maxOwners : ℕ
+maxOwners = 11
+
+abbrev pub goodOwners : List ℕ → Bool
+goodOwners owners = ltb 0 (length owners) && (leb (length owners) maxOwners && (unique owners && all (λ a. not (wide a)) owners))
+
+abbrev pub goodGroup : ℕ × Group → Bool
+goodGroup e = not (wide (e .0)) && (goodOwners (e .1 .owners) && not (badParameters (e .1 .parameters)))
+
+-- a waiting pair has 0 to 29 ticks, any other none
+abbrev pub goodMark : Mark → Bool
+goodMark m = cond (eqb (m .state) waiting) (ltb (m .ticks) T1) (leb (m .state) unheard && eqb (m .ticks) 0)
+
+abbrev pub goodPair : Ledger → Pair × Mark → Bool
+goodPair l e = not (wide (e .0 .1)) && (goodMark (e .1) && present (group l (e .0 .0)))
+
+abbrev pub written : Ledger → Bool
+written l =
+    leb (length (l .groups)) maxGroups && (leb (length (l .pairs)) maxPairs
+    && (distinct eqb (l .groups) && (distinct samePair (l .pairs)
+    && (all goodGroup (l .groups) && all (goodPair l) (l .pairs)))))

@@ -1,0 +1,1 @@
+// The rules of the group ledger: definitions and proofs alone.
