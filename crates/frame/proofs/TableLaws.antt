@@ -1,20 +1,20 @@
--- The code's tables: short ones filled up, and the tests that each element of each table passes.
+-- The code's tables: short ones at the front of a longer one, and the tests that each element of each table passes.
 -- Assumes nothing.
-use Prim.Native.Nat.{ℕ, zero, suc, _+_, _-_, _≤_, _<_}
+use Prim.Native.Nat.{ℕ, zero, suc, _+_, _≤_, _<_}
 use mathlib.Core.Path.{_≡_, refl, ap, ap₂, sym, _∙_, subst}
 use mathlib.Core.Bool.{_&&_}
-use mathlib.Core.List.{List, [], _∷_, _++_}
+use mathlib.Core.List.{List, [], _∷_}
 use native.Mathlib.Numerals.{add-one}
 use native.Mathlib.Omega.{arith}
 use lib.Dec.{T, leb, leb→le}
-use lib.ListN.{length, take, drop, getD, replicate}
-use lib.Seq.{take-append-seam, drop-cons, getD-take}
+use lib.ListN.{length, take, drop, getD}
+use lib.Seq.{drop-cons, getD-take}
 use Rattle.frame.specs.declared.Element.{Element}
 use Rattle.frame.specs.declared.Kind.{Kind}
 use Rattle.frame.specs.declared.Kind.the-variants.{Define, DefineAck, Cancel, CancelAck}
 use Rattle.frame.specs.Shape.{span, spans}
 use Rattle.frame.specs.Table.{define, defineAck, cancel, cancelAck, tableOf}
-use Rattle.frame.specs.Walk.{none, filled, looks, sound, able}
+use Rattle.frame.specs.Walk.{none, looks, sound, able}
 use Rattle.frame.proofs.Tests.{left, right}
 
 -- n elements of a list from the k-th on
@@ -32,19 +32,15 @@ unfolding entries
 entries-all [] = refl
 entries-all (x ∷ l) = ap (λ (m : List Element). x ∷ m) (entries-tail x l 0 (length l) ∙ entries-all l)
 
-filled-entries : (l : List Element) (n : ℕ) → length l ≡ n → entries l 0 n ++ replicate (30 - n) none ≡ filled l
-unfolding filled
-filled-entries l n h =
-    ap₂ (λ (a : List Element) (m : ℕ). a ++ replicate (30 - m) none) (ap (entries l 0) (sym h) ∙ entries-all l) (sym h)
-
-pub filled-four : (l : List Element) → length l ≡ 4 → getD l 0 none ∷ getD l 1 none ∷ getD l 2 none ∷ getD l 3 none ∷ replicate 26 none ≡ filled l
+-- the elements of a list of known length are the list
+pub front-four : (l : List Element) → length l ≡ 4 → getD l 0 none ∷ getD l 1 none ∷ getD l 2 none ∷ getD l 3 none ∷ [] ≡ l
 unfolding entries
-filled-four l h = filled-entries l 4 h
+front-four l h = ap (entries l 0) (sym h) ∙ entries-all l
 
-pub filled-seven : (l : List Element) → length l ≡ 7
-    → getD l 0 none ∷ getD l 1 none ∷ getD l 2 none ∷ getD l 3 none ∷ getD l 4 none ∷ getD l 5 none ∷ getD l 6 none ∷ replicate 23 none ≡ filled l
+pub front-seven : (l : List Element) → length l ≡ 7
+    → getD l 0 none ∷ getD l 1 none ∷ getD l 2 none ∷ getD l 3 none ∷ getD l 4 none ∷ getD l 5 none ∷ getD l 6 none ∷ [] ≡ l
 unfolding entries
-filled-seven l h = filled-entries l 7 h
+front-seven l h = ap (entries l 0) (sym h) ∙ entries-all l
 
 -- ---- the tests, computed once for each table
 tables-able : (kind : Kind) → T (able (tableOf kind) 0)
@@ -75,10 +71,9 @@ pub record Held (kind : Kind) (table : List Element) (count : ℕ) : Type 0 wher
   pub few : count ≤ 30
   pub at : (k : ℕ) → k < count → getD (take count table) k none ≡ getD table k none
 
-pub table-held : (kind : Kind) (table : List Element) (count : ℕ) → table ≡ filled (tableOf kind) → count ≡ length (tableOf kind) → Held kind table count
-unfolding filled
+pub table-held : (kind : Kind) (table : List Element) (count : ℕ) → take (length (tableOf kind)) table ≡ tableOf kind → count ≡ length (tableOf kind) → Held kind table count
 table-held kind table count e d =
-    let same : take count table ≡ tableOf kind = ap₂ take d e ∙ take-append-seam (tableOf kind) (replicate (30 - length (tableOf kind)) none) in
+    let same : take count table ≡ tableOf kind = ap (λ (n : ℕ). take n table) d ∙ e in
     let few : length (tableOf kind) ≤ 30 = leb→le _ _ (tables-size kind) in
     record { same = same; size = ap length same ∙ sym d; few = omega arith; at = λ k h. getD-take count table k none h }
 

@@ -5,7 +5,7 @@ use mathlib.Core.Path.{_≡_}
 use mathlib.Core.Bool.{Bool, true, false, _&&_}
 use mathlib.Core.List.{List, [], _∷_, _++_}
 use lib.Dec.{eqb, leb, ltb}
-use lib.ListN.{length, take, drop, getD, replicate}
+use lib.ListN.{length, take, drop, getD}
 use Rattle.refusal.specs.declared.Refusal.{Refusal}
 use Rattle.refusal.specs.Number.{numberOf}
 use Rattle.bits.specs.Bits.{bitsOf}
@@ -74,12 +74,9 @@ unfoldable pub looks : When → ℕ → Bool
 looks Always n = true
 looks (Is place v) n = ltb place n
 
--- a table filled up to 30 elements
+-- what stands past a table's end
 abbrev pub none : Element
 none = record { 0 = Always; 1 = Number 0 }
-
-unfoldable pub filled : List Element → List Element
-filled table = table ++ replicate (30 - length table) none
 
 -- every element of a table can be read and written at its place, and looks at the record's places only
 unfoldable pub able : List Element → ℕ → Bool

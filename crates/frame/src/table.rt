@@ -6,10 +6,9 @@ use crate::Shape;
 use crate::When;
 use crate::place::*;
 ghost use mathlib.Core.Path.{_≡_};
-ghost use lib.ListN.{length};
+ghost use lib.ListN.{length, take};
 ghost use Rattle.frame.specs.Table.{tableOf, actionType};
 ghost use Rattle.frame.specs.Shape.{span};
-ghost use Rattle.frame.specs.Walk.{filled};
 
 const Y: u8 = 1;
 
@@ -18,8 +17,6 @@ const N: u8 = 2;
 const CALL: u8 = CALL_RELATED as u8;
 
 const O: u8 = O_BIT as u8;
-
-const NONE: Element = Element(When::Always, Shape::Number(0));
 
 // Table 19.
 const DEFINE: [Element; 30] = [
@@ -97,11 +94,11 @@ const CANCEL_ACK: [Element; 4] = [
     Element(When::Always, Shape::Number(1)),
 ];
 
-// A short table, filled up.
-fn filled4(short: [Element; 4]) -> [Element; 30]
-    ensures { λ r. ⌜ r ≡ filled short ⌝ }
+// A short table at the front of table 19, which fills it up.
+fn front4(short: [Element; 4]) -> [Element; 30]
+    ensures { λ r. ⌜ take 4 r ≡ short ⌝ }
 {
-    let mut table = [NONE; 30];
+    let mut table = DEFINE;
     table[0] = short[0];
     table[1] = short[1];
     table[2] = short[2];
@@ -109,10 +106,10 @@ fn filled4(short: [Element; 4]) -> [Element; 30]
     table
 }
 
-fn filled7(short: [Element; 7]) -> [Element; 30]
-    ensures { λ r. ⌜ r ≡ filled short ⌝ }
+fn front7(short: [Element; 7]) -> [Element; 30]
+    ensures { λ r. ⌜ take 7 r ≡ short ⌝ }
 {
-    let mut table = [NONE; 30];
+    let mut table = DEFINE;
     table[0] = short[0];
     table[1] = short[1];
     table[2] = short[2];
@@ -125,13 +122,13 @@ fn filled7(short: [Element; 7]) -> [Element; 30]
 
 // A kind's table, filled up to one size.
 pub fn table_of(kind: Kind) -> [Element; 30]
-    ensures { λ r. ⌜ r ≡ filled (tableOf kind) ⌝ }
+    ensures { λ r. ⌜ take (length (tableOf kind)) r ≡ tableOf kind ⌝ }
 {
     match kind {
         Kind::Define => DEFINE,
-        Kind::DefineAck => filled7(DEFINE_ACK),
-        Kind::Cancel => filled4(CANCEL),
-        Kind::CancelAck => filled4(CANCEL_ACK),
+        Kind::DefineAck => front7(DEFINE_ACK),
+        Kind::Cancel => front4(CANCEL),
+        Kind::CancelAck => front4(CANCEL_ACK),
     }
 }
 

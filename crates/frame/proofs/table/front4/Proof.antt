@@ -1,9 +1,9 @@
--- `frame::table::filled7` meets its contract.
+-- `frame::table::front4` meets its contract.
 -- Assumes nothing.
-use Rattle.frame.proofs.TableLaws.{filled-seven}
+use Rattle.frame.proofs.TableLaws.{front-four}
 use borrow.Author.Needs.{needs}
-use Rattle.frame.proofs.table.filled7.Statement.{statement}
-use Rattle.frame.proofs.table.filled7.Tie as tie
+use Rattle.frame.proofs.table.front4.Statement.{statement}
+use Rattle.frame.proofs.table.front4.Tie as tie
 
 array-copy-out-table : tie.Need-array-copy-out-table
 array-copy-out-table c = search needs
@@ -29,29 +29,11 @@ array-copy-out-table-4 c = search needs
 array-set-from-table-4 : tie.Need-array-set-from-table-4
 array-set-from-table-4 c = search needs
 
-array-copy-out-table-5 : tie.Need-array-copy-out-table-5
-array-copy-out-table-5 c = search needs
-
-array-set-from-table-5 : tie.Need-array-set-from-table-5
-array-set-from-table-5 c = search needs
-
-array-copy-out-table-6 : tie.Need-array-copy-out-table-6
-array-copy-out-table-6 c = search needs
-
-array-set-from-table-6 : tie.Need-array-set-from-table-6
-array-set-from-table-6 c = search needs
-
-array-copy-out-table-7 : tie.Need-array-copy-out-table-7
-array-copy-out-table-7 c = search needs
-
-array-set-from-table-7 : tie.Need-array-set-from-table-7
-array-set-from-table-7 c = search needs
-
 returns : tie.Need-returns
-returns c = filled-seven _ (search needs)
+returns c = front-four _ (search needs)
 
-pub filled7-spec : {M : Type 1} → statement M
-filled7-spec =
+pub front4-spec : {M : Type 1} → statement M
+front4-spec =
     tie.close
     (tie.spec
     array-copy-out-table
@@ -62,10 +44,4 @@ filled7-spec =
     array-set-from-table-3
     array-copy-out-table-4
     array-set-from-table-4
-    array-copy-out-table-5
-    array-set-from-table-5
-    array-copy-out-table-6
-    array-set-from-table-6
-    array-copy-out-table-7
-    array-set-from-table-7
     returns)
