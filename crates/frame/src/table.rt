@@ -10,64 +10,67 @@ ghost use lib.ListN.{length, take};
 ghost use Rattle.frame.specs.Table.{tableOf, actionType};
 ghost use Rattle.frame.specs.Shape.{span};
 
-const Y: u8 = 1;
+const IF_YES: u8 = YES as u8;
 
-const N: u8 = 2;
+const IF_NO: u8 = NO as u8;
 
 const CALL: u8 = CALL_RELATED as u8;
 
-const O: u8 = O_BIT as u8;
+const OPTIONS: u8 = O_BIT as u8;
 
 // Table 19.
 const DEFINE: [Element; 30] = [
     Element(When::Always, Shape::Choice(1, 2)),
-    Element(When::Is(CALL, Y), Shape::Number(14)),
+    Element(When::Is(CALL, IF_YES), Shape::Number(14)),
     Element(When::Always, Shape::Choice(1, 2)),
-    Element(When::Is(CALL, N), Shape::Missing(GIVEN as u8)),
-    Element(When::Is(GIVEN as u8, Y), Shape::List(Items::Numbers)),
+    Element(When::Is(CALL, IF_NO), Shape::Missing(GIVEN as u8)),
+    Element(When::Is(GIVEN as u8, IF_YES), Shape::List(Items::Numbers)),
     Element(When::Always, Shape::Number(1)),
-    Element(When::Is(O, 1), Shape::Number(1)),
+    Element(When::Is(OPTIONS, 1), Shape::Number(1)),
     Element(When::Is(SET_REFERENCE_GIVEN as u8, 1), Shape::Number(3)),
-    Element(When::Is(O, 1), Shape::Number(1)),
+    Element(When::Is(OPTIONS, 1), Shape::Number(1)),
     Element(
         When::Is(OWNERS_INCLUDED_GIVEN as u8, 1),
         Shape::Choice(1, 2),
     ),
     Element(
-        When::Is(OWNERS_INCLUDED as u8, Y),
+        When::Is(OWNERS_INCLUDED as u8, IF_YES),
         Shape::List(Items::Numbers),
     ),
-    Element(When::Is(O, 1), Shape::Number(1)),
+    Element(When::Is(OPTIONS, 1), Shape::Number(1)),
     Element(
         When::Is(ACKNOWLEDGED_CALL_GIVEN as u8, 1),
         Shape::Choice(1, 2),
     ),
-    Element(When::Is(O, 1), Shape::Number(1)),
+    Element(When::Is(OPTIONS, 1), Shape::Number(1)),
     Element(When::Is(BROADCAST_GIVEN as u8, 1), Shape::Choice(1, 2)),
-    Element(When::Is(O, 1), Shape::Number(1)),
+    Element(When::Is(OPTIONS, 1), Shape::Number(1)),
     Element(When::Is(NAME_GIVEN as u8, 1), Shape::List(Items::Letters)),
-    Element(When::Is(O, 1), Shape::Number(1)),
+    Element(When::Is(OPTIONS, 1), Shape::Number(1)),
     Element(When::Is(ASSIGNMENT_GIVEN as u8, 1), Shape::Choice(1, 2)),
-    Element(When::Is(ASSIGNMENT as u8, Y), Shape::List(Items::Numbers)),
-    Element(When::Is(O, 1), Shape::Number(1)),
+    Element(
+        When::Is(ASSIGNMENT as u8, IF_YES),
+        Shape::List(Items::Numbers),
+    ),
+    Element(When::Is(OPTIONS, 1), Shape::Number(1)),
     Element(
         When::Is(ACKNOWLEDGEMENT_GIVEN as u8, 1),
         Shape::Choice(1, 1),
     ),
-    Element(When::Is(O, 1), Shape::Number(1)),
+    Element(When::Is(OPTIONS, 1), Shape::Number(1)),
     Element(When::Is(CLASS_GIVEN as u8, 1), Shape::Number(3)),
-    Element(When::Is(O, 1), Shape::Number(1)),
+    Element(When::Is(OPTIONS, 1), Shape::Number(1)),
     Element(When::Is(LIFETIME_GIVEN as u8, 1), Shape::Number(2)),
-    Element(When::Is(O, 1), Shape::Number(1)),
+    Element(When::Is(OPTIONS, 1), Shape::Number(1)),
     Element(When::Is(TEMPORARY_GIVEN as u8, 1), Shape::Number(3)),
-    Element(When::Is(O, 1), Shape::Ending),
-    Element(When::Is(O, 1), Shape::Nothing(O)),
+    Element(When::Is(OPTIONS, 1), Shape::Ending),
+    Element(When::Is(OPTIONS, 1), Shape::Nothing(OPTIONS)),
 ];
 
 // Table 20.
 const DEFINE_ACK: [Element; 7] = [
     Element(When::Always, Shape::Choice(1, 2)),
-    Element(When::Is(CALL, Y), Shape::Number(14)),
+    Element(When::Is(CALL, IF_YES), Shape::Number(14)),
     Element(When::Always, Shape::List(Items::Numbers)),
     Element(When::Always, Shape::Number(4)),
     Element(When::Always, Shape::Number(1)),
@@ -81,16 +84,16 @@ const DEFINE_ACK: [Element; 7] = [
 // Table 33.
 const CANCEL: [Element; 4] = [
     Element(When::Always, Shape::Choice(1, 2)),
-    Element(When::Is(CALL, Y), Shape::Number(14)),
-    Element(When::Is(CALL, N), Shape::Identity),
+    Element(When::Is(CALL, IF_YES), Shape::Number(14)),
+    Element(When::Is(CALL, IF_NO), Shape::Identity),
     Element(When::Always, Shape::Identity),
 ];
 
 // Table 34.
 const CANCEL_ACK: [Element; 4] = [
     Element(When::Always, Shape::Choice(1, 2)),
-    Element(When::Is(CALL, Y), Shape::Number(14)),
-    Element(When::Is(CALL, N), Shape::Identity),
+    Element(When::Is(CALL, IF_YES), Shape::Number(14)),
+    Element(When::Is(CALL, IF_NO), Shape::Identity),
     Element(When::Always, Shape::Number(1)),
 ];
 
