@@ -39,7 +39,7 @@ use Rattle.ledger.proofs.Listing.{first-none, first-some, reply-none, r
 use Rattle.ledger.proofs.Orders.{alter-same, tests-pass}
 use borrow.Author.Tests.{ltb-false}
 
-given-present : {A : Type 0} (b : Bool) (x : A) → present (cond b (some x) none) ≡ b
+pub given-present : {A : Type 0} (b : Bool) (x : A) → present (cond b (some x) none) ≡ b
 given-present true x = refl
 given-present false x = refl
 
@@ -95,7 +95,7 @@ pub deleted-groups : (remove : Bool) (gs keys : List ℕ) (n : ℕ) (l : List (�
 deleted-groups true gs keys n l e = rw e (alter-out (λ g. mem g gs) l)
 deleted-groups false gs keys n l e = alter-out (λ g. false) l
 
-set-both : (head : List ℕ) (n m : ℕ) → 2 ≤ length head → set (set head 0 n) 1 m ≡ onto (n ∷ m ∷ []) head
+pub set-both : (head : List ℕ) (n m : ℕ) → 2 ≤ length head → set (set head 0 n) 1 m ≡ onto (n ∷ m ∷ []) head
 set-both [] n m h = absurd (omega arith)
 set-both (a ∷ []) n m h = absurd (omega arith)
 set-both (a ∷ b ∷ l) n m h = refl

@@ -10,5 +10,12 @@ pub mod Listing
 pub mod Lent
 pub mod Sending
 pub mod Deletes
+pub mod Defining
 pub mod Unique
 pub mod Showing
+pub mod Puts
+pub mod Defines
+pub mod Making
+pub mod Named
+pub mod OrderRows
+pub mod Recorded

@@ -15,6 +15,8 @@ use Rattle.ledger.proofs.list.Kinds as list-kinds
 use Rattle.ledger.proofs.list.Reads as list
 use Rattle.ledger.proofs.show.Kinds as show-kinds
 use Rattle.ledger.proofs.show.Reads as show
+use Rattle.ledger.proofs.define.Kinds as define-kinds
+use Rattle.ledger.proofs.define.Reads as define
 use Rattle.ledger.proofs.delete.Kinds as delete-kinds
 use Rattle.ledger.proofs.delete.Reads as delete
 
@@ -33,6 +35,12 @@ module _ (κs : Lfts 3) (a : Dens κs answer-kinds.ps) (r r′ : resT answer-kin
 module _ (κs : Lfts 4) (a : Dens κs list-kinds.ps) (r r′ : resT list-kinds.r κs .Denot) (s s′ : AtExit (endedOf 4 list-kinds.ps list-kinds.r) κs) where
   pub list-unique : list.Post κs a r s → list.Post κs a r′ s′ → (r ≡ r′) × (now (s .1 .1 .1 .1 .1 .0) ≡ now (s′ .1 .1 .1 .1 .1 .0))
   list-unique p q = (p .0 ∙ sym (q .0), p .1 ∙ sym (q .1))
+
+module _ (κs : Lfts 4) (a : Dens κs define-kinds.ps) (r r′ : resT define-kinds.r κs .Denot) (s s′ : AtExit (endedOf 4 define-kinds.ps define-kinds.r) κs) where
+  pub define-unique : define.Post κs a r s → define.Post κs a r′ s′ → (r ≡ r′) × (now (s .0) ≡ now (s′ .0)) × (now (s .1 .0) ≡ now (s′ .1 .0)) × (now (s .1 .1 .0) ≡ now (s′ .1 .1 .0)) × (now (s .1 .1 .1 .1 .1 .0) ≡ now (s′ .1 .1 .1 .1 .1 .0))
+  define-unique p q =
+      let c = p .1 ∙ sym (q .1) in
+      (p .0 ∙ sym (q .0), ap (λ (c : Contents). c .head) c, ap (λ (c : Contents). c .groups) c, ap (λ (c : Contents). c .pairs) c, p .2 ∙ sym (q .2))
 
 module _ (κs : Lfts 4) (a : Dens κs delete-kinds.ps) (r r′ : resT delete-kinds.r κs .Denot) (s s′ : AtExit (endedOf 4 delete-kinds.ps delete-kinds.r) κs) where
   pub delete-unique : delete.Post κs a r s → delete.Post κs a r′ s′ → (r ≡ r′) × (now (s .0) ≡ now (s′ .0)) × (now (s .1 .0) ≡ now (s′ .1 .0)) × (now (s .1 .1 .0) ≡ now (s′ .1 .1 .0)) × (now (s .1 .1 .1 .1 .1 .1 .1 .1 .0) ≡ now (s′ .1 .1 .1 .1 .1 .1 .1 .1 .0))

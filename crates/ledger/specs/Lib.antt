@@ -10,3 +10,4 @@ pub mod Lent
 pub mod Sending
 pub mod Deletes
 pub mod Showing
+pub mod Defines

@@ -1,6 +1,6 @@
 -- Parts of a list, as the walks over lent rows see them.
 use mathlib.Core.Path.{_≡_}
-use mathlib.Core.List.{List, [], _++_}
+use mathlib.Core.List.{List, [], _∷_, _++_}
 use Prim.Native.Nat.{ℕ, _<_}
 use lib.ListN.{length, getD, take, drop}
 
@@ -16,3 +16,8 @@ module _ {A : Type 0} where
 -- each of the first n rows is the row of what it says
 abbrev pub Plain : {X : Type 0} → (List ℕ → X) → (X → List ℕ) → ℕ → List (List ℕ) → Type 0
 Plain itemOf rowOf n rows = (i : ℕ) → i < n → rowOf (itemOf (getD rows i [])) ≡ getD rows i []
+
+-- a list's elements applied one after the other
+abbrev pub each : {A B : Type 0} → (A → B → B) → List A → B → B
+each f [] b = b
+each f (x ∷ xs) b = each f xs (f x b)

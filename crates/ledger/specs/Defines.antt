@@ -1,0 +1,153 @@
+-- What a define does, in plain lists, one number after the other.
+use mathlib.Core.Path.{_≡_}
+use Prim.Native.Nat.{ℕ, zero, suc, _+_, _-_, _*_, _≤_}
+use mathlib.Core.Bool.{Bool, false, cond, not, _||_}
+use mathlib.Core.Option.{Option, none, some}
+use mathlib.Core.List.{List, [], _∷_}
+use lib.Dec.{eqb, ltb}
+use lib.ListN.{length, getD}
+use Rattle.refusal.specs.declared.Refusal.{Refusal}
+use Rattle.refusal.specs.declared.Refusal.the-variants.{BadOrder, FormNotTaken, NotOwner, Full, NoRoom}
+use Rattle.frame.specs.Frame.{judgedOf}
+use Rattle.frame.specs.declared.Kind.the-variants as kind
+use Rattle.rules.specs.Lists.{keep, present, join, sum, any, once}
+use Rattle.rules.specs.Number.{Numbers, wide, untaken, numbersIn}
+use Rattle.rules.specs.Order.{Step, define}
+use Rattle.rules.specs.Refusals.{refuses, maxGroups, maxPairs}
+use Rattle.rules.specs.Entries.{find, put}
+use Rattle.rules.specs.Mark.{Mark, fresh, begun}
+use Rattle.rules.specs.Outgoing.{Outgoing, orders}
+use Rattle.rules.specs.Parameters.{replaced, badName}
+use Rattle.rules.specs.Ledger.{Group, Pair, samePair, parametersOf}
+use Rattle.rules.specs.Recorded.{optionalNumber, optionalChoice, optionalName, listed, saysYes, optionalYes, callRelated, groupGiven, groupNumbers, setReference, ownersIncluded, ownerNumbers, acknowledgedCall, broadcast, assignment, radioNumbers, classOfUsage, attachmentLifetime, temporaryAssignment, acknowledgementRequested, optional, parametersIn, defineOf}
+use Rattle.ledger.specs.Storage.{heldOf, lettersOf}
+use Rattle.ledger.specs.Lists.{each}
+use Rattle.ledger.specs.Lent.{listOf, groupFault}
+use Rattle.ledger.specs.declared.Itsi.{Itsi}
+use Rattle.ledger.specs.declared.Listed.{Listed}
+use Rattle.ledger.specs.declared.Standing.the-variants.{Taken}
+
+-- a pair is set: in its place, or behind the others
+abbrev pub setPair : ℕ → ℕ → ℕ → List (Pair × Mark) → List (Pair × Mark)
+setPair state g r l = put samePair l (g, r) (fresh state)
+
+-- each radio with a group, and so with each group
+abbrev pub setRadios : ℕ → List ℕ → ℕ → List (Pair × Mark) → List (Pair × Mark)
+setRadios state radios g l = each (setPair state g) radios l
+
+abbrev pub setAll : ℕ → List ℕ → List ℕ → List (Pair × Mark) → List (Pair × Mark)
+setAll state radios groups l = each (setRadios state radios) groups l
+
+-- how many of the named are not there yet
+abbrev pub newGroups : List (ℕ × Group) → List ℕ → ℕ
+newGroups groups named = length (keep (λ g. not (present (find eqb groups g))) named)
+
+abbrev pub newRadios : List (Pair × Mark) → List ℕ → ℕ → ℕ
+newRadios pairs radios g = length (keep (λ r. not (present (find samePair pairs (g, r)))) radios)
+
+abbrev pub newPairs : List (Pair × Mark) → List ℕ → List ℕ → ℕ
+newPairs pairs radios named = sum (newRadios pairs radios) named
+
+-- the orders to the radios, groups in list order
+abbrev pub assignOrders : List ℕ → List ℕ → List Outgoing
+assignOrders radios named = join (λ g. orders 0 g radios) named
+
+-- ---- a group's row, made from the order's row and the row that was there ----
+
+-- which words are kept: a value where the order has none, the name where it has none, the owners where it keeps them
+abbrev pub keepsWord : Bool → List ℕ → ℕ → Bool
+keepsWord keeps order j = cond (ltb j 7) (eqb (getD order j 0) 0) (cond (ltb j 24) (eqb (getD order 7 0) 0) keeps)
+
+abbrev pub madeWord : ℕ → Bool → List ℕ → List ℕ → ℕ → ℕ
+madeWord g keeps order old j = cond (eqb j 0) g (cond (keepsWord keeps order j) (getD old j 0) (getD order j 0))
+
+-- n words from place k on
+abbrev pub words : (ℕ → ℕ) → ℕ → ℕ → List ℕ
+words f zero k = []
+words f (suc n) k = f k ∷ words f n (suc k)
+
+unfoldable pub madeRow : ℕ → Bool → List ℕ → List ℕ → List ℕ
+madeRow g keeps order old = words (madeWord g keeps order old) 36 0
+
+-- ---- a group that is made, or made anew ----
+
+abbrev pub ownersFrom : Bool → Group → Option Group → List ℕ
+ownersFrom keeps new none = new .owners
+ownersFrom keeps new (some x) = cond keeps (x .owners) (new .owners)
+
+abbrev pub groupFrom : Bool → Group → Option Group → Group
+groupFrom keeps new x = record { owners = ownersFrom keeps new x; parameters = replaced (new .parameters) (parametersOf x) }
+
+abbrev pub makeGroup : Bool → Group → ℕ → List (ℕ × Group) → List (ℕ × Group)
+makeGroup keeps new g l = put eqb l g (groupFrom keeps new (find eqb l g))
+
+abbrev pub makeGroups : Bool → Group → List ℕ → List (ℕ × Group) → List (ℕ × Group)
+makeGroups keeps new groups l = each (makeGroup keeps new) groups l
+
+-- what a row has room for
+abbrev pub Fine : Group → Type 0
+Fine x = (badName (x .parameters .name) ≡ false) × (length (x .owners) ≤ 11)
+
+abbrev pub FineGroups : List (ℕ × Group) → Type 0
+FineGroups [] = Unit {0}
+FineGroups (e ∷ l) = Fine (e .1) × FineGroups l
+
+-- ---- the order's row, read off a DEFINE record: its parameters, and the owners that it gives ----
+
+abbrev pub valueWord : List ℕ → ℕ → ℕ
+valueWord places j =
+    cond (eqb j 1) (heldOf (optionalNumber places setReference)) (cond (eqb j 2) (heldOf (optionalChoice places acknowledgedCall)) (cond (eqb j 3) (heldOf (optionalChoice places broadcast))
+    (cond (eqb j 4) (heldOf (optionalNumber places classOfUsage)) (cond (eqb j 5) (heldOf (optionalNumber places attachmentLifetime)) (heldOf (optionalNumber places temporaryAssignment))))))
+
+abbrev pub orderWord : List ℕ → List ℕ → ℕ → ℕ
+orderWord places owners j =
+    cond (eqb j 0) 0 (cond (ltb j 7) (valueWord places j) (cond (eqb j 7) (length (lettersOf (optionalName places)))
+    (cond (ltb j 24) (getD (lettersOf (optionalName places)) (j - 8) 0) (cond (eqb j 24) (length owners) (getD owners (j - 25) 0)))))
+
+unfoldable pub orderRowOf : List ℕ → List ℕ → List ℕ
+orderRowOf places owners = words (orderWord places owners) 36 0
+
+-- ---- the DEFINE order off a record's places ----
+
+-- the order of an asker, with the room for what goes out
+abbrev pub defineStep : Itsi → List ℕ → ℕ → Step
+defineStep asker places room = define (defineOf (asker .0) places) room
+
+-- its lists
+abbrev pub groupsListed : List ℕ → Option Numbers
+groupsListed places = listed places (saysYes places groupGiven) groupNumbers
+
+abbrev pub ownersListed : List ℕ → Option Numbers
+ownersListed places = listed places (optionalYes places ownersIncluded) ownerNumbers
+
+abbrev pub radiosListed : List ℕ → Option Numbers
+radiosListed places = listed places (optionalYes places assignment) radioNumbers
+
+-- the tests of its form, and those of what stands
+abbrev pub defineForm : Itsi → List ℕ → Listed → Listed → Listed → List (Refusal × Bool)
+defineForm asker places groups owners radios =
+    (BadOrder, wide (asker .0) || refuses (judgedOf kind.Define places))
+    ∷ (FormNotTaken, saysYes places callRelated || (untaken (listOf groups) || (untaken (listOf owners) || untaken (listOf radios))))
+    ∷ []
+
+abbrev pub defineStand : List (ℕ × Group) → List (Pair × Mark) → Itsi → List ℕ → List ℕ → ℕ → List (Refusal × Bool)
+defineStand groups pairs asker named radios room =
+    (NotOwner, any (λ g. groupFault Taken (find eqb groups g) (asker .0)) named)
+    ∷ (Full, ltb maxGroups (length groups + newGroups groups named) || ltb maxPairs (length pairs + newPairs pairs radios named))
+    ∷ (NoRoom, ltb room (length named * length radios))
+    ∷ []
+
+-- ---- what it makes and sends ----
+
+-- a group as the order gives it
+abbrev pub defined : ℕ → List ℕ → Group
+defined asker places = record { owners = once (asker ∷ numbersIn (ownersListed places)); parameters = parametersIn places }
+
+abbrev pub groupsMade : ℕ → List ℕ → List (ℕ × Group) → List (ℕ × Group)
+groupsMade asker places l = makeGroups (not (optionalYes places ownersIncluded)) (defined asker places) (numbersIn (groupsListed places)) l
+
+abbrev pub pairsSet : List ℕ → List (Pair × Mark) → List (Pair × Mark)
+pairsSet places l = setAll (begun (optional places acknowledgementRequested) .state) (numbersIn (radiosListed places)) (numbersIn (groupsListed places)) l
+
+abbrev pub ordersSent : List ℕ → List Outgoing
+ordersSent places = assignOrders (numbersIn (radiosListed places)) (numbersIn (groupsListed places))
