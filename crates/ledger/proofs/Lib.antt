@@ -7,6 +7,8 @@ pub mod Groups
 pub mod Form
 pub mod Orders
 pub mod Listing
+pub mod Filling
+pub mod Merging
 pub mod Lent
 pub mod Sending
 pub mod Deletes

@@ -1,38 +1,35 @@
--- Laws of a group's list: an entry goes in by a gap that opens at its place; the walk over the pairs makes the law's list.
+-- Laws of a group's list: an entry goes in by a gap that opens at its place; the list on lent contents.
 use mathlib.Core.Path.{_≡_, refl, sym, ap, _∙_}
 use mathlib.Core.List.{List, [], _∷_, _++_, map, append-assoc}
 use mathlib.Core.Bool.{Bool, true, false, cond}
 use mathlib.Core.Option.{Option, none, some}
-use Prim.Native.Nat.{ℕ, zero, suc, _+_, _-_, _≤_, _<_}
+use Prim.Native.Nat.{ℕ, suc, _+_, _≤_, _<_}
 use native.Mathlib.Numerals.{add-one}
 use native.Mathlib.Omega.{arith}
-use lib.ListN.{length, getD, take, drop, set, take-append-drop, List·getD-append, length-map}
-use lib.Seq.{take-suc, getD-take, length-take-le, take-take, set-at, take-at}
-use lib.Dec.{ltb, eqb}
+use lib.ListN.{length, getD, take, drop, set, take-append-drop, List·getD-append}
+use lib.Seq.{take-suc, getD-take, length-take-le, take-take, set-at}
+use lib.Dec.{ltb}
 use borrow.Author.Tests.{lt-ltb, le-ltb}
-use Rattle.rules.specs.Mark.{Mark}
 use Rattle.rules.specs.Replies.{Listed}
 use Rattle.refusal.specs.declared.Refusal.{Refusal}
 use Rattle.refusal.specs.declared.Refusal.the-variants.{NotWritten, NoRoom}
 use Rattle.rules.specs.Refusals.{first, askTests, showRefusal, listRefusal}
-use Rattle.rules.specs.Ledger.{Pair, samePair, view, members, list}
+use Rattle.rules.specs.Ledger.{samePair, view, members, list}
 use Rattle.rules.proofs.EntryLaws.{Single}
 use Rattle.rules.proofs.Written.{written-form}
 use Rattle.rules.proofs.Listing.{listed-members, length-listed}
 use Rattle.rules.specs.Listing.{insertEntry, listedIn}
 use Rattle.ledger.specs.Lists.{left, onto}
-use Rattle.ledger.specs.Storage.{Contents, ledgerOf, pairOf, pairsOf, pairsFrom}
+use Rattle.ledger.specs.Storage.{Contents, ledgerOf}
 use Rattle.ledger.specs.Form.{isWritten, Sound}
 use Rattle.ledger.specs.Orders.{replyOf, judged}
-use Rattle.ledger.specs.Listing.{entryRow, insertRow, placeIn, gap, markIn, listOn, membersOf}
+use Rattle.ledger.specs.Listing.{entryRow, insertRow, placeIn, gap, listOn, membersOf}
 use Rattle.ledger.specs.declared.Gtsi.{Gtsi}
 use Rattle.ledger.specs.declared.Itsi.{Itsi}
 use Rattle.ledger.specs.declared.Reply.the-variants.{Done, Refused}
 use Rattle.ledger.specs.declared.Members.the-variants as members
-use Rattle.ledger.specs.Places.{foundOf}
-use Rattle.ledger.specs.declared.Found.the-variants.{Held, Nothing}
 use Rattle.ledger.proofs.Form.{law-form}
-use Rattle.ledger.proofs.Rows.{left-cons, left-end, onto-onto}
+use Rattle.ledger.proofs.Rows.{left-cons, left-end}
 
 pub gap-same : (o : List (List ℕ)) (k : ℕ) → gap k k o ≡ o
 gap-same o k = rw (left-end o k k (omega arith)) (take-append-drop (k + 1) o)
@@ -87,59 +84,6 @@ entry-length x (y ∷ l) = go (ltb (x .0) (y .0)) (entry-length x l)
     go : (b : Bool) → length (insertEntry x l) ≡ length l + 1 → length (cond b (x ∷ y ∷ l) (y ∷ insertEntry x l)) ≡ suc (length l) + 1
     go true e = omega arith
     go false e = omega arith
-
--- what a row's mark says of its group
-pub mark-held : (g : ℕ) (e : Pair × Mark) (state ticks : ℕ) → foundOf (markIn g e) ≡ Held state ticks → (eqb g (e .0 .0) ≡ true) × (state ≡ e .1 .state)
-mark-held g e state ticks = go (eqb g (e .0 .0))
-  where
-    go : (b : Bool) → foundOf (cond b (some (e .1)) none) ≡ Held state ticks → (b ≡ true) × (state ≡ e .1 .state)
-    go true q = (refl, cc)
-    go false q = let z : _≡_ {A = ℕ} 0 1 = cc in absurd (omega arith)
-
-pub mark-none : (g : ℕ) (e : Pair × Mark) → foundOf (markIn g e) ≡ Nothing → eqb g (e .0 .0) ≡ false
-mark-none g e = go (eqb g (e .0 .0))
-  where
-    go : (b : Bool) → foundOf (cond b (some (e .1)) none) ≡ Nothing → b ≡ false
-    go true q = let z : _≡_ {A = ℕ} 0 1 = cc in absurd (omega arith)
-    go false q = refl
-
--- fewer are listed of what is left
-listed-left : (g : ℕ) (i : ℕ) (l : List (Pair × Mark)) → length (listedIn g (drop i l)) ≤ length (listedIn g l)
-listed-left g zero l = omega arith
-listed-left g (suc i) [] = omega arith
-listed-left g (suc i) (e ∷ l) = go (eqb g (e .0 .0)) (listed-left g i l)
-  where
-    go : (b : Bool) → length (listedIn g (drop i l)) ≤ length (listedIn g l) → length (listedIn g (drop i l)) ≤ length (cond b (insertEntry (e .0 .1, e .1 .state) (listedIn g l)) (listedIn g l))
-    go true h = rw (entry-length (e .0 .1, e .1 .state) (listedIn g l)) (omega arith)
-    go false h = h
-
-pub listed-front : (g i n : ℕ) (rows : List (List ℕ)) → length (listedIn g (pairsFrom i n rows)) ≤ length (listedIn g (pairsOf n rows))
-listed-front g i n rows = rw (dropped i (take n rows)) (listed-left g i (pairsOf n rows))
-  where
-    dropped : (i : ℕ) (l : List (List ℕ)) → map pairOf (drop i l) ≡ drop i (map pairOf l)
-    dropped zero l = refl
-    dropped (suc i) [] = refl
-    dropped (suc i) (x ∷ l) = dropped i l
-
--- a turn of the walk, downwards: the pair at i - 1 is of the group, or not
-module _ (g : ℕ) (rows out out₀ : List (List ℕ)) (n i k : ℕ) (a : 0 < i) (b : i ≤ n) (c : n ≤ length rows) (m : k ≡ length (listedIn g (pairsFrom i n rows))) (o : out ≡ onto (map entryRow (listedIn g (pairsFrom i n rows))) out₀) where
-  listed-turn : listedIn g (pairsFrom (i - 1) n rows) ≡ cond (eqb g (getD (getD rows (i - 1) []) 0 0)) (insertEntry (getD (getD rows (i - 1) []) 1 0, getD (getD rows (i - 1) []) 2 0) (listedIn g (pairsFrom i n rows))) (listedIn g (pairsFrom i n rows))
-  listed-turn =
-      let e : i - 1 + 1 ≡ i = omega arith in
-      rw (left-cons rows n (i - 1) [] (omega arith) c, e)
-
-  pub listed-in : (x : List ℕ) → x ≡ getD (getD rows (i - 1) []) 1 0 ∷ getD (getD rows (i - 1) []) 2 0 ∷ [] → eqb g (getD (getD rows (i - 1) []) 0 0) ≡ true → (k + 1 ≡ length (listedIn g (pairsFrom (i - 1) n rows))) × (onto (insertRow x (take k out)) out ≡ onto (map entryRow (listedIn g (pairsFrom (i - 1) n rows))) out₀)
-  listed-in x d y =
-      let e : Listed = (getD (getD rows (i - 1) []) 1 0, getD (getD rows (i - 1) []) 2 0) in
-      let l = listedIn g (pairsFrom i n rows) in
-      let t : take k out ≡ map entryRow l = rw o (take-at (map entryRow l) (drop (length (map entryRow l)) out₀) k (length-map l entryRow ∙ sym m)) in
-      rw (listed-turn, y, t, rows-insert e l, d) (
-        ap (λ (z : ℕ). z + 1) m ∙ sym (entry-length e l),
-        rw o (onto-onto (map entryRow l) (insertRow (entryRow e) (map entryRow l)) out₀ (rw (insert-length (entryRow e) (map entryRow l)) (omega arith))),
-      )
-
-  pub listed-out : eqb g (getD (getD rows (i - 1) []) 0 0) ≡ false → (k ≡ length (listedIn g (pairsFrom (i - 1) n rows))) × (out ≡ onto (map entryRow (listedIn g (pairsFrom (i - 1) n rows))) out₀)
-  listed-out y = rw (listed-turn, y) (m, o)
 
 -- ---- the list on lent contents ----
 
