@@ -13,7 +13,6 @@ pub mod LawOrder
 pub mod Walks
 pub mod Steps
 pub mod Recorded
-pub mod Samples
 pub mod Laid
 pub mod Places
 pub mod Sound

@@ -16,4 +16,3 @@ pub mod Listing
 pub mod Run
 pub mod Written
 pub mod Demand
-pub mod Samples

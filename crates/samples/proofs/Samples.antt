@@ -8,8 +8,10 @@ use Rattle.frame.specs.Write.{lay, vals, emit}
 use Rattle.frame.specs.Shape.{repeated, rowsOf, span, unrolled, spans}
 use Rattle.frame.specs.Table.{define, defineAck, cancel, cancelAck}
 use Rattle.frame.specs.Frame.{rows, head, read, readBytes, asReading, readingOf, write, judgedOf, writtenOf, outputOf}
+use Rattle.rules.specs.Number.{numbers}
+use Rattle.rules.specs.Recorded.{numbersAt, parametersIn, defineOf}
 use Rattle.samples.specs.Samples.{samples, passes}
 
 pub samples-pass : T (all passes samples)
-unfolding digits value bitsOf pack bytesOf present readRows lay vals emit repeated rowsOf span unrolled spans define defineAck cancel cancelAck rows head read readBytes asReading readingOf write judgedOf writtenOf outputOf passes
+unfolding digits value bitsOf pack bytesOf present readRows lay vals emit repeated rowsOf span unrolled spans define defineAck cancel cancelAck rows head read readBytes asReading readingOf write judgedOf writtenOf outputOf numbers numbersAt parametersIn defineOf passes
 samples-pass = tt

@@ -1,8 +1,9 @@
 -- The samples of document 01 that are proved, in one table, and what it is that each of them passes.
 -- Assumes nothing.
-use Prim.Native.Nat.{ℕ, _-_}
+use Prim.Native.Nat.{ℕ, zero, suc, _-_}
 use mathlib.Core.Bool.{Bool, true, false, _&&_}
 use mathlib.Core.List.{List, [], _∷_, _++_}
+use mathlib.Core.Option.{none}
 use lib.Dec.{eqb}
 use lib.ListN.{length, replicate}
 use Rattle.refusal.specs.Number.{numberOf}
@@ -14,12 +15,20 @@ use Rattle.frame.specs.declared.Written.{Written}
 use Rattle.frame.specs.declared.Written.the-variants as written
 use Rattle.frame.specs.Shape.{Yes, No}
 use Rattle.frame.specs.Frame.{places, readingOf, writtenOf, outputOf}
+use Rattle.rules.specs.Order.{Step, define, delete, answer, tick}
+use Rattle.rules.specs.Recorded.{setReference, assignment, numbersAt, defineOf}
+use Rattle.rules.specs.Refusals.{replyNumber}
+use Rattle.rules.specs.Replies.{Listed, Listing}
+use Rattle.rules.specs.History.{History, start, _then_, refusalIn, listIn}
+use Rattle.rules.specs.Ledger as ledger
+use Rattle.rules.specs.Run.{run}
 
 pub data Sample : Type 0 where
   taken : Kind → ℕ → List ℕ → List ℕ → Sample  -- so many bits in these bytes are this record, which goes on with 0; and it is written so
   refused : Kind → ℕ → List ℕ → ℕ → Sample  -- so many bits in these bytes are refused with this number
+  ordered : History → Step → ℕ → List Listed → Sample  -- after this history the step gets this number (0: accepted), and asker 1's list of group 5 is then this
 
--- ---- the table
+-- ---- records and orders that the table names
 -- an identity takes four places: its form, SNA, SSI and extension
 abbrev sna : ℕ → List ℕ
 sna n = 1 ∷ n ∷ 0 ∷ 0 ∷ []
@@ -31,10 +40,39 @@ ssi n = 2 ∷ 0 ∷ n ∷ 0 ∷ []
 abbrev one : List ℕ → List ℕ
 one identity = 1 ∷ identity ++ replicate 36 0
 
+-- a DEFINE record up to its O-bit: no call, one group
+abbrev group : ℕ → List ℕ
+group g = No ∷ 0 ∷ Yes ∷ 0 ∷ one (ssi g)
+
+-- the rest of it, from the O-bit on: assign this radio, acknowledgement requested
+abbrev assign : ℕ → List ℕ
+assign r = 1 ∷ replicate (assignment - setReference) 0 ++ (1 ∷ Yes ∷ one (ssi r)) ++ (1 ∷ Yes ∷ [])
+
+-- asker 1 defines group 5 and assigns radio 9, with room for one outgoing order
+abbrev assigns : Step
+assigns = define (defineOf 1 (group 5 ++ assign 9)) 1
+
+-- asker 1 defines group 5 and assigns none
+abbrev defines : Step
+defines = define (defineOf 1 (group 5)) 0
+
+-- asker 1 deletes group 5, deassign no
+abbrev deletes : Step
+deletes = delete (record { asker = 1; groups = numbersAt (one (ssi 5)) 0; delete = true; deassign = false; radios = none }) 0
+
+-- radio 9 answers for group 5 with result 1
+abbrev confirms : Step
+confirms = answer (record { radio = 9; group = 5; result = 1 })
+
+abbrev ticks : ℕ → History → History
+ticks zero h = h
+ticks (suc n) h = ticks n h then tick
+
+-- ---- the table
 abbrev pub samples : List Sample
 samples =
     -- DEFINE, no call, group SSI 1, no options: 43 bits
-    taken Define 43 (0x50 ∷ 0xE0 ∷ 0x40 ∷ 0x00 ∷ 0x00 ∷ 0x40 ∷ []) (No ∷ 0 ∷ Yes ∷ 0 ∷ one (ssi 1))
+    taken Define 43 (0x50 ∷ 0xE0 ∷ 0x40 ∷ 0x00 ∷ 0x00 ∷ 0x40 ∷ []) (group 1)
     -- DEFINE-ACK, no call, SSI 1, result 1: 46 bits
     ∷ taken DefineAck 46 (0x50 ∷ 0xE0 ∷ 0x80 ∷ 0x00 ∷ 0x00 ∷ 0x88 ∷ []) (No ∷ 0 ∷ one (ssi 1) ++ (1 ∷ []))
     -- CANCEL, call identifier 5, existing SNA 7: 35 bits
@@ -46,6 +84,18 @@ samples =
     -- no bits; more bits than bytes
     ∷ refused Define 0 (0x50 ∷ 0xE0 ∷ 0x40 ∷ 0x00 ∷ 0x00 ∷ 0x40 ∷ []) 1
     ∷ refused Define 49 (0x50 ∷ 0xE0 ∷ 0x40 ∷ 0x00 ∷ 0x00 ∷ 0x40 ∷ []) 1
+    -- answer after 29 ticks and after 30: both accepted
+    ∷ ordered (ticks 29 (start then assigns)) confirms 0 ((9, 2) ∷ [])
+    ∷ ordered (ticks 30 (start then assigns)) confirms 0 ((9, 2) ∷ [])
+    -- between them, at its 30th tick, the waiting radio becomes unheard
+    ∷ ordered (ticks 28 (start then assigns)) tick 0 ((9, 1) ∷ [])
+    ∷ ordered (ticks 29 (start then assigns)) tick 0 ((9, 3) ∷ [])
+    -- a second result 1: at once, and after 30 ticks
+    ∷ ordered (start then assigns then confirms) confirms 14 ((9, 2) ∷ [])
+    ∷ ordered (ticks 30 (start then assigns) then confirms) confirms 14 ((9, 2) ∷ [])
+    -- group 5 with radio 9 in it; deleted, deassign no, and defined again, assigning none: empty list
+    ∷ ordered start assigns 0 ((9, 1) ∷ [])
+    ∷ ordered (start then assigns then deletes) defines 0 []
     ∷ []
 
 -- ---- what they pass
@@ -71,6 +121,16 @@ abbrev writes : ℕ → Written → Bool
 writes n (written.Bits m) = eqb m n
 writes n (written.Refused r) = false
 
+abbrev sameEntries : List Listed → List Listed → Bool
+sameEntries [] [] = true
+sameEntries [] (y ∷ ys) = false
+sameEntries (x ∷ xs) [] = false
+sameEntries (x ∷ xs) (y ∷ ys) = eqb (x .0) (y .0) && eqb (x .1) (y .1) && sameEntries xs ys
+
+-- an accepted list with these entries
+abbrev lists : List Listed → Listing → Bool
+lists entries reply = eqb (replyNumber (reply .refused)) 0 && sameEntries (reply .entries) entries
+
 -- the reader's answer, and the writer's into that many zero bytes
 unfoldable pub passes : Sample → Bool
 passes (taken kind count bytes s) =
@@ -83,3 +143,9 @@ passes (taken kind count bytes s) =
 passes (refused kind count bytes n) =
     let reading = readingOf kind bytes count in
     refusesWith n (reading .verdict) && same (reading .values .place) (filled [])
+-- by what the history means, and on the abstract ledger after it
+passes (ordered before next n entries) =
+    eqb (replyNumber (refusalIn before next)) n
+    && lists entries (listIn (before then next) 1 5 1)
+    && eqb (replyNumber (ledger.refused (run before) next)) n
+    && lists entries (ledger.list (run (before then next)) 1 5 1)
