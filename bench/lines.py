@@ -229,4 +229,5 @@ def main(words):
         out.write(line.encode("latin-1") + b"\n")
 
 
-main(sys.argv[1:])
+if __name__ == "__main__":
+    main(sys.argv[1:])

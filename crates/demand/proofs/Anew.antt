@@ -1,0 +1,81 @@
+-- A place means nothing: the history alone says what a list holds. A group deleted and made again starts empty.
+use mathlib.Core.Path.{_≡_, refl, sym, ap, _∙_}
+use mathlib.Core.Bool.{Bool, true}
+use mathlib.Core.List.{List, [], map}
+use mathlib.Core.Option.{Option, none, some}
+use Prim.Native.Nat.{ℕ}
+use native.Mathlib.Omega.{arith}
+use lib.ListN.{length}
+use Rattle.refusal.specs.declared.Refusal.{Refusal}
+use Rattle.frame.specs.declared.Record.{Record}
+use Rattle.rules.specs.Lists.{mem}
+use Rattle.rules.specs.Number.{numbers}
+use Rattle.rules.specs.Order.{Delete, define, delete, defineGroups}
+use Rattle.rules.specs.Recorded.{defineOf}
+use Rattle.rules.specs.Ledger.{list}
+use Rattle.rules.specs.History.{History, _then_, refusalIn, sentIn, listIn}
+use Rattle.rules.specs.Run.{run}
+use Rattle.rules.proofs.Agree.{list-agree}
+use Rattle.rules.proofs.Anew as rules
+use Rattle.ledger.specs.Lists.{onto}
+use Rattle.ledger.specs.Storage.{Contents}
+use Rattle.ledger.specs.Lent.{numbersOf, listOf}
+use Rattle.ledger.specs.Sending.{sentReply}
+use Rattle.ledger.specs.Listing.{entryRow, membersOf}
+use Rattle.ledger.specs.declared.Gtsi.{Gtsi}
+use Rattle.ledger.specs.declared.Itsi.{Itsi}
+use Rattle.ledger.specs.declared.Numbers.{Numbers}
+use Rattle.ledger.specs.declared.Listed.{Listed}
+use Rattle.ledger.specs.declared.Sent.the-variants.{Orders}
+use Rattle.ledger.specs.declared.Members.{Members}
+use Rattle.ledger.specs.declared.Members.the-variants.{Radios}
+use Rattle.ledger.specs.declared.Shown.{Shown}
+use Rattle.demand.specs.Calls.{Rows, Defines, Deletes, Lists, Shows}
+use Rattle.demand.specs.Runs.{Kept, defined, deleted}
+use Rattle.demand.proofs.Demand.{demand}
+
+-- two runs with one history, whatever lay in the lent places before them and wherever their rows lie
+module _ {c c′ : Contents} {h : History} (k : Kept c h) (k′ : Kept c′ h) {asker : Itsi} {group : Gtsi} where
+  pub same-lists : {room listed listed′ : Rows} {reply reply′ : Members} → Lists asker group room listed c reply → Lists asker group room listed′ c′ reply′ → (reply ≡ reply′) × (listed ≡ listed′)
+  same-lists e e′ =
+      let a = demand k .lists e in
+      let b = demand k′ .lists e′ in
+      (a .0 ∙ sym (b .0), a .1 ∙ sym (b .1))
+
+  pub same-shows : {reply reply′ : Shown} → Shows asker group c reply → Shows asker group c′ reply′ → reply ≡ reply′
+  same-shows e e′ = demand k .shows e ∙ sym (demand k′ .shows e′)
+
+-- ---- a group deleted and made again ----
+
+defined-by : (asker : ℕ) (places : List ℕ) → defineOf asker places .asker ≡ asker
+unfolding defineOf
+defined-by asker places = refl
+
+sent-none : (o : Option Refusal) (n k : ℕ) → Orders n ≡ sentReply o k → o ≡ none
+sent-none none n k e = refl
+sent-none (some r) n k e = let z : _≡_ {A = ℕ} 0 1 = cc in absurd (omega arith)
+
+-- an accepted delete takes the group away, an accepted define without radios makes it again: the list of the define's asker
+-- is empty, and leaves its room as it was, whatever radios the group had
+pub again-empty : {c₀ c₁ c₂ : Contents} {h : History} → Kept c₀ h
+    → {asker : Itsi} {named : Numbers} {deassign : Bool} {radios : Listed} {space sent : Rows} {n : ℕ} → Deletes asker named true deassign radios space sent c₀ c₁ (Orders n)
+    → {maker : Itsi} {values : Record} {space′ sent′ : Rows} {n′ : ℕ} → Defines maker values space′ sent′ c₁ c₂ (Orders n′)
+    → {group : Gtsi} {room listed : Rows} {reply : Members} → Lists maker group room listed c₂ reply
+    → mem (group .0) (numbers (numbersOf named)) ≡ true
+    → mem (group .0) (defineGroups (defineOf (maker .0) (values .place))) ≡ true
+    → defineOf (maker .0) (values .place) .radios ≡ none
+    → (reply ≡ Radios 0) × (listed ≡ room)
+again-empty {h = h} k {asker} {named} {deassign} {radios} {space} {n = n} a {maker} {values} {space′} {n′ = n′} b {group} {room} e gone made none-listed =
+    let d : Delete = record { asker = asker .0; groups = numbersOf named; delete = true; deassign = deassign; radios = listOf radios } in
+    let o = defineOf (maker .0) (values .place) in
+    let s = delete d (length space) in
+    let s′ = define o (length space′) in
+    let k₁ = deleted k a in
+    let taken = sent-none (refusalIn h s) n (length (sentIn h s)) (demand k .deletes a .0) in
+    let taken′ = sent-none (refusalIn (h then s) s′) n′ (length (sentIn (h then s) s′)) (demand k₁ .defines b .0) in
+    let l : listIn (h then s then s′) (maker .0) (group .0) (length room) ≡ record { refused = none; entries = [] } =
+    sym (list-agree (h then s then s′) (maker .0) (group .0) (length room))
+    ∙ ap (λ (x : ℕ). list (run (h then s then s′)) x (group .0) (length room)) (sym (defined-by (maker .0) (values .place)))
+    ∙ rules.again-empty h d o (group .0) (length space) (length space′) (length room) taken refl gone taken′ made none-listed in
+    let f = demand (defined k₁ b) .lists e in
+    (f .0 ∙ ap membersOf l, f .1 ∙ (λ i. onto (map entryRow (l i .entries)) room))

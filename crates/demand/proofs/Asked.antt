@@ -1,0 +1,157 @@
+-- Every history that callers may ask for is the history of some run: the contracts forbid none, so the demand speaks of all.
+use mathlib.Core.Path.{_≡_, refl, sym, ap, _∙_, subst}
+use mathlib.Core.Bool.{Bool, true, cond}
+use mathlib.Core.List.{List, [], _∷_, map}
+use mathlib.Core.Option.{Option, none, some}
+use Prim.Native.Nat.{ℕ}
+use lib.ListN.{length, replicate, length-replicate}
+use denote.Ref.{RefT}
+use Rattle.refusal.specs.declared.Refusal.{Refusal}
+use Rattle.refusal.specs.declared.Refusal.the-variants.{NotWritten}
+use Rattle.frame.specs.declared.Record.{Record}
+use Rattle.rules.specs.Entries.{alter}
+use Rattle.rules.specs.Effect.{effect}
+use Rattle.rules.specs.Ledger.{Pair, empty, refused}
+use Rattle.rules.specs.Mark as mark
+use Rattle.rules.specs.Order as order
+use Rattle.rules.specs.History.{_then_}
+use Rattle.ledger.specs.Lists.{onto}
+use Rattle.ledger.specs.Storage.{Contents, contents, pairRow, pairsOf, pairCount, ledgerOf, laid}
+use Rattle.ledger.specs.Form.{roomy, Sound}
+use Rattle.ledger.specs.Orders.{replyOf, verdict, after, answerOf}
+use Rattle.ledger.specs.Sending.{orderRow, sentOn, sentReply}
+use Rattle.ledger.specs.Defines.{defineStep}
+use Rattle.ledger.specs.Deletes.{deleteOf}
+use Rattle.ledger.specs.declared.Gtsi.{Gtsi}
+use Rattle.ledger.specs.declared.Itsi.{Itsi}
+use Rattle.ledger.specs.declared.Numbers.{Numbers}
+use Rattle.ledger.specs.declared.Listed.{Listed}
+use Rattle.ledger.specs.declared.Reply.the-variants.{Done}
+use Rattle.ledger.proofs.Orders.{refused-stays, taken-after, turned-laid, ticked-laid}
+use Rattle.demand.specs.Calls.{Rows, Storage, Empties, Ticks, Answers, Defines, Deletes}
+use Rattle.demand.specs.Runs.{Kept, begun, defined, deleted, answered, ticked}
+use Rattle.demand.specs.Asked as asked
+use Rattle.demand.specs.Asked.{Asked, historyOf, Reached}
+use Rattle.demand.proofs.Runs.{run-stands}
+
+-- something lent
+abbrev lend : {X : Type 0} → X → RefT X
+lend x = record { ptr = (0, 0); name = 0; now = x }
+
+abbrev lends : Contents → Storage
+lends c = record { head = lend (c .head); groups = lend (c .groups); pairs = lend (c .pairs) }
+
+defines : (asker : Itsi) (values : Record) (room : Rows) (c : Contents)
+    → let s = defineStep asker (values .place) (length room) in
+    Defines asker values room (onto (map orderRow (sentOn c s)) room) c (after c s) (sentReply (verdict c s) (length (sentOn c s)))
+defines asker values room c =
+    let s = defineStep asker (values .place) (length room) in
+    let to = lends (after c s) in
+    record {
+      lifetimes = ([], ([], ([], ([], tt))));
+      lent = lends c;
+      out = lend room;
+      left = (to .head, (to .groups, (to .pairs, (asker, (values, (lend (onto (map orderRow (sentOn c s)) room), tt))))));
+      starts = refl;
+      roomed = refl;
+      meets = (refl, refl, refl);
+      ends = refl;
+      sends = refl;
+    }
+
+deletes : (asker : Itsi) (named : Numbers) (remove deassign : Bool) (radios : Listed) (room : Rows) (c : Contents)
+    → let s = deleteOf asker named remove deassign radios (length room) in
+    Deletes asker named remove deassign radios room (onto (map orderRow (sentOn c s)) room) c (after c s) (sentReply (verdict c s) (length (sentOn c s)))
+deletes asker named remove deassign radios room c =
+    let s = deleteOf asker named remove deassign radios (length room) in
+    let to = lends (after c s) in
+    record {
+      lifetimes = ([], ([], ([], ([], tt))));
+      lent = lends c;
+      out = lend room;
+      left = (to .head, (to .groups, (to .pairs, (asker, (named, (remove, (deassign, (radios, (lend (onto (map orderRow (sentOn c s)) room), tt)))))))));
+      starts = refl;
+      roomed = refl;
+      meets = (refl, refl, refl);
+      ends = refl;
+      sends = refl;
+    }
+
+-- the groups' rows stay through an answer
+answer-stays : (radio : Itsi) (group : Gtsi) (result : ℕ) (c : Contents) → Sound c → after c (answerOf radio group result) .groups ≡ c .groups
+answer-stays radio group result c w = go (refused (ledgerOf c) (answerOf radio group result)) refl
+  where
+    turns : ℕ → ℕ → mark.Mark → Option mark.Mark
+    turns = effect (answerOf radio group result) .turns
+
+    go : (o : Option Refusal) → refused (ledgerOf c) (answerOf radio group result) ≡ o → after c (answerOf radio group result) .groups ≡ c .groups
+    go none e = ap (λ (x : Contents). x .groups) (taken-after c (answerOf radio group result) (w .form) e .1 ∙ sym (turned-laid c w turns _ _ refl refl))
+    go (some r) e = ap (λ (x : Contents). x .groups) (sym (refused-stays c (answerOf radio group result) r (λ i. replyOf (cond (sym (w .form) i) (sym e i) (some NotWritten)))))
+
+answers : (radio : Itsi) (group : Gtsi) (result : ℕ) (c : Contents) → Sound c
+    → let s = answerOf radio group result in Answers radio group result c (after c s) (replyOf (verdict c s))
+answers radio group result c w =
+    let s = answerOf radio group result in
+    let to = lends (after c s) in
+    let e : contents (after c s .head) (c .groups) (after c s .pairs) ≡ after c s = λ i. contents (after c s .head) (sym (answer-stays radio group result c w) i) (after c s .pairs) in
+    record {
+      lifetimes = ([], ([], ([], tt)));
+      lent = lends c;
+      left = (to .head, (lend (c .groups), (to .pairs, (radio, (group, (result, tt))))));
+      starts = refl;
+      meets = (refl, e);
+      ends = e;
+    }
+
+ticks : (c : Contents) → Sound c → Ticks c (after c order.tick) (replyOf (verdict c order.tick))
+ticks c w =
+    let rows = onto (map pairRow (alter (λ (k : Pair) m. some (mark.ticked m)) (pairsOf (pairCount c) (c .pairs)))) (c .pairs) in
+    let e : contents (c .head) (c .groups) rows ≡ after c order.tick = ticked-laid c w rows refl ∙ sym (taken-after c order.tick (w .form) refl .1) in
+    record {
+      lifetimes = ([], ([], ([], tt)));
+      lent = lends c;
+      left = (lend (c .head), (lend (c .groups), (lend rows, tt)));
+      starts = refl;
+      meets = (refl, e);
+      ends = e;
+    }
+
+empties : (c : Contents) → roomy c ≡ true → Empties c (laid empty c) Done
+empties c r = record {
+  lifetimes = ([], ([], ([], tt)));
+  lent = lends c;
+  left = (lend (laid empty c .head), (lend (c .groups), (lend (c .pairs), tt)));
+  starts = refl;
+  meets = (λ i. replyOf (cond (sym r i) none (some NotWritten)), λ i. cond (sym r i) (laid empty c) c);
+  ends = refl;
+}
+
+-- the space asked for
+abbrev space : Contents
+space = contents (replicate 2 0) (replicate 320 (replicate 36 0)) (replicate 2048 (replicate 4 0))
+
+space-roomy : roomy space ≡ true
+space-roomy = refl
+
+pub reached : (l : List Asked) → Reached (historyOf l)
+reached [] = record { left = laid empty space; kept = begun (empties space space-roomy) }
+reached (asked.define asker values n ∷ l) =
+    let r = reached l in
+    let room : Rows = replicate n [] in
+    record {
+      left = after (r .left) (defineStep asker (values .place) (length room));
+      kept = subst (λ (m : ℕ). Kept (after (r .left) (defineStep asker (values .place) (length room))) (historyOf l then defineStep asker (values .place) m)) (length-replicate {A = List ℕ} n []) (defined (r .kept) (defines asker values room (r .left)));
+    }
+reached (asked.delete asker named remove deassign radios n ∷ l) =
+    let r = reached l in
+    let room : Rows = replicate n [] in
+    record {
+      left = after (r .left) (deleteOf asker named remove deassign radios (length room));
+      kept = subst (λ (m : ℕ). Kept (after (r .left) (deleteOf asker named remove deassign radios (length room))) (historyOf l then deleteOf asker named remove deassign radios m)) (length-replicate {A = List ℕ} n []) (deleted (r .kept) (deletes asker named remove deassign radios room (r .left)));
+    }
+reached (asked.answer radio group result ∷ l) =
+    let r = reached l in
+    record { left = after (r .left) (answerOf radio group result); kept = answered (r .kept) (answers radio group result (r .left) (run-stands (r .kept) .sound)) }
+reached (asked.tick ∷ l) =
+    let r = reached l in
+    record { left = after (r .left) order.tick; kept = ticked (r .kept) (ticks (r .left) (run-stands (r .kept) .sound)) }

@@ -1,0 +1,8 @@
+-- Proofs over runs of calls: Demand has the theorem, Asked says that it speaks of every history.
+pub mod Back
+pub mod Calls
+pub mod Runs
+pub mod Demand
+pub mod Never18
+pub mod Anew
+pub mod Asked

@@ -1,0 +1,39 @@
+-- Orders as callers may ask for them, any number of them, one after another.
+use mathlib.Core.Bool.{Bool}
+use mathlib.Core.List.{List, [], _∷_}
+use Prim.Native.Nat.{ℕ}
+use Rattle.frame.specs.declared.Record.{Record}
+use Rattle.rules.specs.Order as order
+use Rattle.rules.specs.History.{History, start, _then_}
+use Rattle.ledger.specs.Storage.{Contents}
+use Rattle.ledger.specs.Orders.{answerOf}
+use Rattle.ledger.specs.Defines.{defineStep}
+use Rattle.ledger.specs.Deletes.{deleteOf}
+use Rattle.ledger.specs.declared.Gtsi.{Gtsi}
+use Rattle.ledger.specs.declared.Itsi.{Itsi}
+use Rattle.ledger.specs.declared.Numbers.{Numbers}
+use Rattle.ledger.specs.declared.Listed.{Listed}
+use Rattle.demand.specs.Runs.{Kept}
+
+-- the last number of a define and of a delete is the rows of room lent for what goes out
+pub data Asked : Type 0 where
+  define : Itsi → Record → ℕ → Asked
+  delete : Itsi → Numbers → Bool → Bool → Listed → ℕ → Asked
+  answer : Itsi → Gtsi → ℕ → Asked
+  tick : Asked
+
+abbrev pub stepOf : Asked → order.Step
+stepOf (define asker values room) = defineStep asker (values .place) room
+stepOf (delete asker named remove deassign radios room) = deleteOf asker named remove deassign radios room
+stepOf (answer radio group result) = answerOf radio group result
+stepOf tick = order.tick
+
+-- the last asked stands first
+abbrev pub historyOf : List Asked → History
+historyOf [] = start
+historyOf (a ∷ asked) = historyOf asked then stepOf a
+
+-- a run of calls has this history
+pub record Reached (h : History) : Type 0 where
+  pub left : Contents
+  pub kept : Kept left h

@@ -1,0 +1,116 @@
+-- Calls of the ledger's public functions: what was lent and asked, the reply, and what was left, as the function's own contract
+-- allows. `Post` is the contract's claim as the checker reads it; nothing of a function's body is used.
+--     lent, out      where the contents and the room were lent          left    what the parameters held at the end
+--     meets          the reply and what was left meet the contract      starts, roomed, ends, sends, lists    what these places held
+use mathlib.Core.Path.{_≡_}
+use mathlib.Core.Bool.{Bool}
+use mathlib.Core.List.{List}
+use Prim.Native.Nat.{ℕ}
+use contract.Lifetimes.{Lfts}
+use borrow.Fn.Kinds.{endedOf}
+use denote.Triple.Clauses.{AtExit}
+use denote.Ref.{RefT, now}
+use Rattle.frame.specs.declared.Record.{Record}
+use Rattle.ledger.specs.Storage.{Contents, contents}
+use Rattle.ledger.specs.declared.Gtsi.{Gtsi}
+use Rattle.ledger.specs.declared.Itsi.{Itsi}
+use Rattle.ledger.specs.declared.Numbers.{Numbers}
+use Rattle.ledger.specs.declared.Listed.{Listed}
+use Rattle.ledger.specs.declared.Reply.{Reply}
+use Rattle.ledger.specs.declared.Sent.{Sent}
+use Rattle.ledger.specs.declared.Members.{Members}
+use Rattle.ledger.specs.declared.Shown.{Shown}
+use Rattle.ledger.proofs.empty.Kinds as empty-kinds
+use Rattle.ledger.proofs.empty.Reads as empty
+use Rattle.ledger.proofs.tick.Kinds as tick-kinds
+use Rattle.ledger.proofs.tick.Reads as tick
+use Rattle.ledger.proofs.answer.Kinds as answer-kinds
+use Rattle.ledger.proofs.answer.Reads as answer
+use Rattle.ledger.proofs.define.Kinds as define-kinds
+use Rattle.ledger.proofs.define.Reads as define
+use Rattle.ledger.proofs.delete.Kinds as delete-kinds
+use Rattle.ledger.proofs.delete.Reads as delete
+use Rattle.ledger.proofs.list.Kinds as list-kinds
+use Rattle.ledger.proofs.list.Reads as list
+use Rattle.ledger.proofs.show.Kinds as show-kinds
+use Rattle.ledger.proofs.show.Reads as show
+
+-- rows of words
+abbrev pub Rows : Type 0
+Rows = List (List ℕ)
+
+-- the ledger's three lent places
+pub record Storage : Type 0 where
+  pub head : RefT (List ℕ)
+  pub groups : RefT Rows
+  pub pairs : RefT Rows
+
+abbrev pub held : Storage → Contents
+held s = contents (now (s .head)) (now (s .groups)) (now (s .pairs))
+
+-- ---- the orders: the contents before and after; room: the rows lent for what goes out; sent: the same rows after the call ----
+
+pub record Empties (before after : Contents) (reply : Reply) : Type 0 where
+  pub lifetimes : Lfts 3
+  pub lent : Storage
+  pub left : AtExit (endedOf 3 empty-kinds.ps empty-kinds.r) lifetimes
+  pub starts : held lent ≡ before
+  pub meets : empty.Post lifetimes (lent .head, (lent .groups, (lent .pairs, tt))) reply left
+  pub ends : contents (now (left .0)) (now (lent .groups)) (now (lent .pairs)) ≡ after
+
+pub record Ticks (before after : Contents) (reply : Reply) : Type 0 where
+  pub lifetimes : Lfts 3
+  pub lent : Storage
+  pub left : AtExit (endedOf 3 tick-kinds.ps tick-kinds.r) lifetimes
+  pub starts : held lent ≡ before
+  pub meets : tick.Post lifetimes (lent .head, (lent .groups, (lent .pairs, tt))) reply left
+  pub ends : contents (now (lent .head)) (now (lent .groups)) (now (left .1 .1 .0)) ≡ after
+
+pub record Answers (radio : Itsi) (group : Gtsi) (result : ℕ) (before after : Contents) (reply : Reply) : Type 0 where
+  pub lifetimes : Lfts 3
+  pub lent : Storage
+  pub left : AtExit (endedOf 3 answer-kinds.ps answer-kinds.r) lifetimes
+  pub starts : held lent ≡ before
+  pub meets : answer.Post lifetimes (lent .head, (lent .groups, (lent .pairs, (radio, (group, (result, tt)))))) reply left
+  pub ends : contents (now (left .0)) (now (lent .groups)) (now (left .1 .1 .0)) ≡ after
+
+pub record Defines (asker : Itsi) (values : Record) (room sent : Rows) (before after : Contents) (reply : Sent) : Type 0 where
+  pub lifetimes : Lfts 4
+  pub lent : Storage
+  pub out : RefT Rows
+  pub left : AtExit (endedOf 4 define-kinds.ps define-kinds.r) lifetimes
+  pub starts : held lent ≡ before
+  pub roomed : now out ≡ room
+  pub meets : define.Post lifetimes (lent .head, (lent .groups, (lent .pairs, (asker, (values, (out, tt)))))) reply left
+  pub ends : contents (now (left .0)) (now (left .1 .0)) (now (left .1 .1 .0)) ≡ after
+  pub sends : now (left .1 .1 .1 .1 .1 .0) ≡ sent
+
+pub record Deletes (asker : Itsi) (named : Numbers) (remove deassign : Bool) (radios : Listed) (room sent : Rows) (before after : Contents) (reply : Sent) : Type 0 where
+  pub lifetimes : Lfts 4
+  pub lent : Storage
+  pub out : RefT Rows
+  pub left : AtExit (endedOf 4 delete-kinds.ps delete-kinds.r) lifetimes
+  pub starts : held lent ≡ before
+  pub roomed : now out ≡ room
+  pub meets : delete.Post lifetimes (lent .head, (lent .groups, (lent .pairs, (asker, (named, (remove, (deassign, (radios, (out, tt))))))))) reply left
+  pub ends : contents (now (left .0)) (now (left .1 .0)) (now (left .1 .1 .0)) ≡ after
+  pub sends : now (left .1 .1 .1 .1 .1 .1 .1 .1 .0) ≡ sent
+
+-- ---- the questions, on contents that they do not change; listed: the rows of the room after the call ----
+
+pub record Lists (asker : Itsi) (group : Gtsi) (room listed : Rows) (on : Contents) (reply : Members) : Type 0 where
+  pub lifetimes : Lfts 4
+  pub lent : Storage
+  pub out : RefT Rows
+  pub left : AtExit (endedOf 4 list-kinds.ps list-kinds.r) lifetimes
+  pub stands : held lent ≡ on
+  pub roomed : now out ≡ room
+  pub meets : list.Post lifetimes (lent .head, (lent .groups, (lent .pairs, (asker, (group, (out, tt)))))) reply left
+  pub lists : now (left .1 .1 .1 .1 .1 .0) ≡ listed
+
+pub record Shows (asker : Itsi) (group : Gtsi) (on : Contents) (reply : Shown) : Type 0 where
+  pub lifetimes : Lfts 3
+  pub lent : Storage
+  pub left : AtExit (endedOf 3 show-kinds.ps show-kinds.r) lifetimes
+  pub stands : held lent ≡ on
+  pub meets : show.Post lifetimes (lent .head, (lent .groups, (lent .pairs, (asker, (group, tt))))) reply left

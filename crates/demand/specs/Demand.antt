@@ -1,0 +1,94 @@
+-- Demand 3 over the contracts of the ledger's own functions: what every call answers, on the contents that any run has left.
+use mathlib.Core.Path.{_≡_}
+use mathlib.Core.Bool.{Bool, true}
+use mathlib.Core.List.{List, map}
+use mathlib.Core.Option.{none}
+use Prim.Native.Nat.{ℕ, _≤_}
+use lib.ListN.{length}
+use Rattle.frame.specs.declared.Record.{Record}
+use Rattle.refusal.specs.declared.Refusal.the-variants.{NotWritten}
+use Rattle.rules.specs.Parameters.{Parameters}
+use Rattle.rules.specs.Replies as replies
+use Rattle.rules.specs.History.{History, owner, radiosIn, refusalIn, sentIn, listIn, showIn}
+use Rattle.rules.specs.Run.{run}
+use Rattle.rules.specs.Demand.{Exactly, Tells}
+use Rattle.ledger.specs.Lists.{onto}
+use Rattle.ledger.specs.Storage.{Contents, ledgerOf}
+use Rattle.ledger.specs.Form.{isWritten}
+use Rattle.ledger.specs.Orders.{replyOf, answerOf}
+use Rattle.ledger.specs.Sending.{orderRow, sentReply}
+use Rattle.ledger.specs.Defines.{defineStep}
+use Rattle.ledger.specs.Deletes.{deleteOf}
+use Rattle.ledger.specs.Listing.{entryRow, membersOf}
+use Rattle.ledger.specs.Showing.{shownAs, shownOf}
+use Rattle.ledger.specs.declared.Gtsi.{Gtsi}
+use Rattle.ledger.specs.declared.Itsi.{Itsi}
+use Rattle.ledger.specs.declared.Numbers.{Numbers}
+use Rattle.ledger.specs.declared.Listed.{Listed}
+use Rattle.ledger.specs.declared.Reply.{Reply}
+use Rattle.ledger.specs.declared.Reply.the-variants.{Done, Refused}
+use Rattle.ledger.specs.declared.Sent.{Sent}
+use Rattle.ledger.specs.declared.Sent.the-variants as sending
+use Rattle.ledger.specs.declared.Members.{Members}
+use Rattle.ledger.specs.declared.Members.the-variants as members
+use Rattle.ledger.specs.declared.Shown.{Shown}
+use Rattle.demand.specs.Calls.{Rows, Empties, Ticks, Answers, Defines, Deletes, Lists, Shows}
+
+-- the reply counts the entries, they are the first rows of the room, and the rows past them are as they were
+pub record ListsExactly (h : History) (g : ℕ) (room listed : Rows) (reply : Members) : Type 0 where
+  pub entries : List replies.Listed
+  pub counts : reply ≡ members.Radios (length entries)
+  pub rows : listed ≡ onto (map entryRow entries) room
+  pub exact : Exactly h g entries
+
+-- the reply holds the owners and the parameters
+pub record ShowsExactly (h : History) (g : ℕ) (reply : Shown) : Type 0 where
+  pub owners : List ℕ
+  pub parameters : Parameters
+  pub holds : reply ≡ shownAs none owners parameters
+  pub tells : Tells h g owners parameters
+
+-- on the contents c every call answers as the history h says. Each call of a run is such a call: on what the calls before it left
+pub record Faithful (c : Contents) (h : History) : Type 0 where
+  -- the contents are in their written form, and hold the ledger of the history
+  pub written : isWritten c ≡ true
+  pub holds : ledgerOf c ≡ run h
+  -- every order is accepted or refused as the history says, and sends what it says
+  pub defines : {asker : Itsi} {values : Record} {room sent : Rows} {c′ : Contents} {reply : Sent}
+      → Defines asker values room sent c c′ reply
+      → let s = defineStep asker (values .place) (length room) in
+      (reply ≡ sentReply (refusalIn h s) (length (sentIn h s))) × (sent ≡ onto (map orderRow (sentIn h s)) room)
+  pub deletes : {asker : Itsi} {named : Numbers} {remove deassign : Bool} {radios : Listed} {room sent : Rows} {c′ : Contents} {reply : Sent}
+      → Deletes asker named remove deassign radios room sent c c′ reply
+      → let s = deleteOf asker named remove deassign radios (length room) in
+      (reply ≡ sentReply (refusalIn h s) (length (sentIn h s))) × (sent ≡ onto (map orderRow (sentIn h s)) room)
+  pub answers : {radio : Itsi} {group : Gtsi} {result : ℕ} {c′ : Contents} {reply : Reply}
+      → Answers radio group result c c′ reply → reply ≡ replyOf (refusalIn h (answerOf radio group result))
+  pub ticks : {c′ : Contents} {reply : Reply} → Ticks c c′ reply → reply ≡ Done
+  -- every list and every show is the history's, refused ones too
+  pub lists : {asker : Itsi} {group : Gtsi} {room listed : Rows} {reply : Members}
+      → Lists asker group room listed c reply
+      → let l = listIn h (asker .0) (group .0) (length room) in
+      (reply ≡ membersOf l) × (listed ≡ onto (map entryRow (l .entries)) room)
+  pub shows : {asker : Itsi} {group : Gtsi} {reply : Shown}
+      → Shows asker group c reply → reply ≡ shownOf (showIn h (asker .0) (group .0))
+  -- an owner's list, with room for the group's radios: all of them, with their states, and no other
+  pub owner-lists : {asker : Itsi} {group : Gtsi} {room listed : Rows} {reply : Members}
+      → Lists asker group room listed c reply → owner h (group .0) (asker .0) ≡ true → length (radiosIn h (group .0)) ≤ length room
+      → ListsExactly h (group .0) room listed reply
+  -- an owner's show
+  pub owner-shows : {asker : Itsi} {group : Gtsi} {reply : Shown}
+      → Shows asker group c reply → owner h (group .0) (asker .0) ≡ true → ShowsExactly h (group .0) reply
+
+-- "18 .. never after own operations from empty": no call on the contents is refused with it
+pub record Never18 (c : Contents) : Type 0 where
+  pub defines : {asker : Itsi} {values : Record} {room sent : Rows} {c′ : Contents}
+      → Defines asker values room sent c c′ (sending.Refused NotWritten) → ⊥
+  pub deletes : {asker : Itsi} {named : Numbers} {remove deassign : Bool} {radios : Listed} {room sent : Rows} {c′ : Contents}
+      → Deletes asker named remove deassign radios room sent c c′ (sending.Refused NotWritten) → ⊥
+  pub answers : {radio : Itsi} {group : Gtsi} {result : ℕ} {c′ : Contents} → Answers radio group result c c′ (Refused NotWritten) → ⊥
+  pub ticks : {c′ : Contents} → Ticks c c′ (Refused NotWritten) → ⊥
+  pub lists : {asker : Itsi} {group : Gtsi} {room listed : Rows} → Lists asker group room listed c (members.Refused NotWritten) → ⊥
+  pub shows : {asker : Itsi} {group : Gtsi} {reply : Shown} → Shows asker group c reply → reply .reply ≡ Refused NotWritten → ⊥
+  -- and a new beginning is not either
+  pub empties : {c′ : Contents} → Empties c c′ (Refused NotWritten) → ⊥

@@ -1,0 +1,5 @@
+-- What is stated over runs of calls.
+pub mod Calls
+pub mod Runs
+pub mod Demand
+pub mod Asked

@@ -1,0 +1,32 @@
+-- A run of calls from an empty ledger, each on the contents that the one before it left; and the run's history: what the
+-- calls asked for, refused ones among them. A list and a show change nothing of the ledger, so they may stand anywhere.
+use mathlib.Core.Bool.{Bool}
+use Prim.Native.Nat.{ℕ}
+use lib.ListN.{length}
+use Rattle.frame.specs.declared.Record.{Record}
+use Rattle.rules.specs.Order.{tick}
+use Rattle.rules.specs.History.{History, start, _then_}
+use Rattle.ledger.specs.Storage.{Contents}
+use Rattle.ledger.specs.Orders.{answerOf}
+use Rattle.ledger.specs.Defines.{defineStep}
+use Rattle.ledger.specs.Deletes.{deleteOf}
+use Rattle.ledger.specs.declared.Gtsi.{Gtsi}
+use Rattle.ledger.specs.declared.Itsi.{Itsi}
+use Rattle.ledger.specs.declared.Numbers.{Numbers}
+use Rattle.ledger.specs.declared.Listed.{Listed}
+use Rattle.ledger.specs.declared.Reply.{Reply}
+use Rattle.ledger.specs.declared.Reply.the-variants.{Done}
+use Rattle.ledger.specs.declared.Sent.{Sent}
+use Rattle.demand.specs.Calls.{Rows, Empties, Ticks, Answers, Defines, Deletes}
+
+-- the contents after a run, and its history. An order stands in the history whatever its reply was
+pub data Kept : Contents → History → Type 0 where
+  begun : {c c′ : Contents} → Empties c c′ Done → Kept c′ start
+  defined : {c c′ : Contents} {h : History} {asker : Itsi} {values : Record} {room sent : Rows} {reply : Sent}
+      → Kept c h → Defines asker values room sent c c′ reply → Kept c′ (h then defineStep asker (values .place) (length room))
+  deleted : {c c′ : Contents} {h : History} {asker : Itsi} {named : Numbers} {remove deassign : Bool} {radios : Listed} {room sent : Rows} {reply : Sent}
+      → Kept c h → Deletes asker named remove deassign radios room sent c c′ reply → Kept c′ (h then deleteOf asker named remove deassign radios (length room))
+  answered : {c c′ : Contents} {h : History} {radio : Itsi} {group : Gtsi} {result : ℕ} {reply : Reply}
+      → Kept c h → Answers radio group result c c′ reply → Kept c′ (h then answerOf radio group result)
+  ticked : {c c′ : Contents} {h : History} {reply : Reply}
+      → Kept c h → Ticks c c′ reply → Kept c′ (h then tick)

@@ -1,0 +1,1 @@
+// The ledger over any run of calls: definitions and proofs alone.
