@@ -1,0 +1,148 @@
+// The desk of a yard: one ledger order a line on standard input, one reply a line.
+mod orders;
+mod replies;
+mod words;
+
+use libc::STDIN_FILENO;
+use libc::STDOUT_FILENO;
+use orders::reply_to;
+ghost use Prim.Native.Nat.{_+_, _≤_};
+ghost use lib.ListN.{length};
+ghost use Rattle.desk.specs.Room.{longest, HeldIn};
+
+// How many bytes of a line are held of which the end has not come; or the input ended, or a call failed.
+enum Input {
+    Held(usize),
+    Ended,
+    Failed,
+}
+
+// Answers a line, by way of `out`.
+fn say_by(
+    line: &[u8],
+    head: &mut [u64],
+    groups: &mut [[u64; 36]],
+    pairs: &mut [[u64; 4]],
+    out: &mut [u8],
+) -> bool
+    requires { ⌜ longest + 1 ≤ length (now out) ⌝ }
+{
+    let count = reply_to(line, head, groups, pairs, out);
+    io::write_all(STDOUT_FILENO, &out[..count])
+}
+
+// Answers a line: there is room for the longest reply.
+fn say(line: &[u8], head: &mut [u64], groups: &mut [[u64; 36]], pairs: &mut [[u64; 4]]) -> bool {
+    let mut out = io::large_buffer();
+    say_by(line, head, groups, pairs, &mut out)
+}
+
+// Holds one byte more, or answers the line that it ends. What is over the room for a line is not held: such a line is bad, whatever follows.
+fn take_byte(
+    byte: u8,
+    line: &mut [u8],
+    held: usize,
+    head: &mut [u64],
+    groups: &mut [[u64; 36]],
+    pairs: &mut [[u64; 4]],
+) -> Input
+    requires { ⌜ held ≤ length (now line) ⌝ }
+    ensures { λ r. ⌜ HeldIn (length (now (line .exit))) r ⌝ }
+{
+    if byte == b'\n' {
+        if say(&line[..held], head, groups, pairs) {
+            return Input::Held(0);
+        }
+        return Input::Failed;
+    }
+    if held == line.len() {
+        return Input::Held(held);
+    }
+    line[held] = byte;
+    Input::Held(held + 1)
+}
+
+// Takes the bytes that were read.
+fn take_bytes(
+    bytes: &[u8],
+    line: &mut [u8],
+    held: usize,
+    head: &mut [u64],
+    groups: &mut [[u64; 36]],
+    pairs: &mut [[u64; 4]],
+) -> Input
+    requires { ⌜ held ≤ length (now line) ⌝ }
+    ensures { λ r. ⌜ HeldIn (length (now (line .exit))) r ⌝ }
+{
+    let mut count = held;
+    let mut i = 0;
+    while i < bytes.len() {
+        let Input::Held(left) = take_byte(bytes[i], line, count, head, groups, pairs) else {
+            return Input::Failed;
+        };
+        count = left;
+        i += 1;
+    }
+    Input::Held(count)
+}
+
+// Answers the last line, if it lacks its newline.
+fn finish(
+    line: &[u8],
+    held: usize,
+    head: &mut [u64],
+    groups: &mut [[u64; 36]],
+    pairs: &mut [[u64; 4]],
+)
+    requires { ⌜ held ≤ length (now line) ⌝ }
+{
+    if 0 < held {
+        say(&line[..held], head, groups, pairs);
+    }
+}
+
+// Reads once, and takes what came; at the end of the input answers the last line.
+fn turn(
+    line: &mut [u8],
+    held: usize,
+    head: &mut [u64],
+    groups: &mut [[u64; 36]],
+    pairs: &mut [[u64; 4]],
+) -> Input
+    requires { ⌜ held ≤ length (now line) ⌝ }
+    ensures { λ r. ⌜ HeldIn (length (now (line .exit))) r ⌝ }
+{
+    let mut bytes = io::buffer();
+    let got = libc::read(STDIN_FILENO, &mut bytes);
+    let count = io::count(got, &bytes);
+    if got < 0 {
+        return Input::Failed;
+    }
+    if count == 0 {
+        finish(line, held, head, groups, pairs);
+        return Input::Ended;
+    }
+    take_bytes(&bytes[..count], line, held, head, groups, pairs)
+}
+
+// A proved loop has to end, and nothing says that the input does: the turns are counted down from a number that no run uses up.
+fn attend(line: &mut [u8], head: &mut [u64], groups: &mut [[u64; 36]], pairs: &mut [[u64; 4]]) {
+    let mut held = 0;
+    let mut turns = u64::MAX;
+    while 0 < turns {
+        turns -= 1;
+        let Input::Held(count) = turn(line, held, head, groups, pairs) else {
+            return;
+        };
+        held = count;
+    }
+}
+
+// The longest line is a D with the longest house text, 457 bytes; one more shows that a line is too long.
+fn main() {
+    let mut line = [0u8; 458];
+    let mut head = [0u64; 2];
+    let mut groups = [[0u64; 36]; 320];
+    let mut pairs = [[0u64; 4]; 2048];
+    attend(&mut line, &mut head, &mut groups, &mut pairs);
+}
