@@ -2,7 +2,8 @@
 """The mix of bench_ledger.c as order lines for `desk`, and the checksum of the replies.
   orders.py N [SEED]              the fill, to 320 groups and 2,048 pairs, and N orders of the mix
   orders.py --fill                the fill alone
-  orders.py --form N              N orders that are refused at once behind the test of the written form
+  orders.py --doubled N [SEED]    the same as N [SEED], and before each order of the mix one that is refused at once behind the test of the written form
+  orders.py --form N              N such orders alone
   orders.py --count N [SEED]      how many orders the mix has: N, or one more
   orders.py --checksum < REPLIES  bench_ledger.c's checksum of these replies"""
 import itertools
@@ -69,6 +70,11 @@ def mix(count, seed):
         done += 1
 
 
+def form():
+    """An answer of a radio above 24 bits: 10, which comes next to 18."""
+    return f"A {number(2**24)} {number(FIRST)} 01"
+
+
 def checksum(replies):
     h = 2166136261
 
@@ -96,7 +102,10 @@ def main(words):
     elif words[0] == "--fill":
         print("\n".join(fill))
     elif words[0] == "--form":
-        print("\n".join([f"A {number(2**24)} {number(FIRST)} 01"] * int(words[1])))
+        print("\n".join([form()] * int(words[1])))
+    elif words[0] == "--doubled":
+        orders = mix(int(words[1]), int((words + ["1"])[2]))
+        print("\n".join(itertools.chain(fill, (line for order in orders for line in (form(), order)))))
     else:
         print("\n".join(itertools.chain(fill, mix(int(words[0]), int((words + ["1"])[1])))))
 
