@@ -17,15 +17,15 @@ use Rattle.rules.specs.History.{History, _then_, refusalIn, sentIn, listIn}
 use Rattle.rules.specs.Run.{run}
 use Rattle.rules.proofs.Agree.{list-agree}
 use Rattle.rules.proofs.Anew as rules
-use Rattle.ledger.specs.Lists.{onto}
-use Rattle.ledger.specs.Storage.{Contents}
-use Rattle.ledger.specs.Lent.{numbersOf, listOf}
+use Rattle.store.specs.Lists.{onto}
+use Rattle.store.specs.Storage.{Contents}
+use Rattle.order.specs.Lists.{numbersOf, listOf}
 use Rattle.ledger.specs.Sending.{sentReply}
 use Rattle.ledger.specs.Listing.{entryRow, membersOf}
-use Rattle.ledger.specs.declared.Gtsi.{Gtsi}
-use Rattle.ledger.specs.declared.Itsi.{Itsi}
-use Rattle.ledger.specs.declared.Numbers.{Numbers}
-use Rattle.ledger.specs.declared.Listed.{Listed}
+use Rattle.order.specs.declared.Gtsi.{Gtsi}
+use Rattle.order.specs.declared.Itsi.{Itsi}
+use Rattle.order.specs.declared.Numbers.{Numbers}
+use Rattle.order.specs.declared.Listed.{Listed}
 use Rattle.ledger.specs.declared.Sent.the-variants.{Orders}
 use Rattle.ledger.specs.declared.Members.{Members}
 use Rattle.ledger.specs.declared.Members.the-variants.{Radios}

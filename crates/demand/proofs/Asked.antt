@@ -15,17 +15,17 @@ use Rattle.rules.specs.Ledger.{Pair, empty, refused}
 use Rattle.rules.specs.Mark as mark
 use Rattle.rules.specs.Order as order
 use Rattle.rules.specs.History.{_then_}
-use Rattle.ledger.specs.Lists.{onto}
-use Rattle.ledger.specs.Storage.{Contents, contents, pairRow, pairsOf, pairCount, ledgerOf, laid}
-use Rattle.ledger.specs.Form.{roomy, Sound}
+use Rattle.store.specs.Lists.{onto}
+use Rattle.store.specs.Storage.{Contents, contents, pairRow, pairsOf, pairCount, ledgerOf, laid}
+use Rattle.store.specs.Form.{roomy, Sound}
 use Rattle.ledger.specs.Orders.{replyOf, verdict, after, answerOf}
 use Rattle.ledger.specs.Sending.{orderRow, sentOn, sentReply}
 use Rattle.ledger.specs.Defines.{defineStep}
 use Rattle.ledger.specs.Deletes.{deleteOf}
-use Rattle.ledger.specs.declared.Gtsi.{Gtsi}
-use Rattle.ledger.specs.declared.Itsi.{Itsi}
-use Rattle.ledger.specs.declared.Numbers.{Numbers}
-use Rattle.ledger.specs.declared.Listed.{Listed}
+use Rattle.order.specs.declared.Gtsi.{Gtsi}
+use Rattle.order.specs.declared.Itsi.{Itsi}
+use Rattle.order.specs.declared.Numbers.{Numbers}
+use Rattle.order.specs.declared.Listed.{Listed}
 use Rattle.ledger.specs.declared.Reply.the-variants.{Done}
 use Rattle.ledger.proofs.Orders.{refused-stays, taken-after, turned-laid, ticked-laid}
 use Rattle.demand.specs.Calls.{Rows, Storage, Empties, Ticks, Answers, Defines, Deletes}

@@ -17,13 +17,14 @@ use Rattle.rules.specs.Entries.{distinct}
 use Rattle.rules.specs.Written.{maxOwners, goodOwners, goodGroup, goodPair, written}
 use Rattle.rules.proofs.Tests.{and-in, and-l, and-r, or-l, or-r}
 use Rattle.rules.proofs.Written.{written-form}
-use Rattle.ledger.specs.Lists.{onto, Plain}
-use Rattle.ledger.specs.Storage.{Contents, pairOf, pairRow, groupOf, groupRow, lettersOf, owners, counted, groupCount, ledgerOf, laid}
-use Rattle.ledger.specs.Form.{blank, tidy, roomy, within, isWritten, Sound}
-use Rattle.ledger.proofs.Rows.{onto-length}
-use Rattle.ledger.proofs.Form.{room-of, sound}
+use Rattle.store.specs.Lists.{onto, Plain}
+use Rattle.store.specs.Storage.{Contents, pairOf, pairRow, groupOf, groupRow, owners, counted, groupCount, ledgerOf, laid}
+use Rattle.order.specs.Row.{lettersOf}
+use Rattle.store.specs.Form.{blank, tidy, roomy, within, isWritten, Sound}
+use Rattle.store.proofs.Rows.{onto-length}
+use Rattle.store.proofs.Form.{room-of, sound}
 use Rattle.ledger.proofs.Defines.{pairs-back}
-use Rattle.ledger.proofs.Groups.{name-few, group-back}
+use Rattle.store.proofs.Groups.{name-few, group-back}
 
 -- ---- a group in the law's form ----
 

@@ -6,18 +6,18 @@ use Prim.Native.Nat.{ℕ}
 use lib.ListN.{length}
 use Rattle.frame.specs.declared.Record.{Record}
 use Rattle.rules.specs.Order.{Step, tick}
-use Rattle.ledger.specs.Lists.{onto}
-use Rattle.ledger.specs.Storage.{Contents}
+use Rattle.store.specs.Lists.{onto}
+use Rattle.store.specs.Storage.{Contents}
 use Rattle.ledger.specs.Orders.{replyOf, verdict, after, emptyVerdict, emptied, answerOf}
 use Rattle.ledger.specs.Sending.{orderRow, sentOn, sentReply}
 use Rattle.ledger.specs.Defines.{defineStep}
 use Rattle.ledger.specs.Deletes.{deleteOf}
 use Rattle.ledger.specs.Listing.{entryRow, listOn, membersOf}
 use Rattle.ledger.specs.Showing.{showOn, shownOf}
-use Rattle.ledger.specs.declared.Gtsi.{Gtsi}
-use Rattle.ledger.specs.declared.Itsi.{Itsi}
-use Rattle.ledger.specs.declared.Numbers.{Numbers}
-use Rattle.ledger.specs.declared.Listed.{Listed}
+use Rattle.order.specs.declared.Gtsi.{Gtsi}
+use Rattle.order.specs.declared.Itsi.{Itsi}
+use Rattle.order.specs.declared.Numbers.{Numbers}
+use Rattle.order.specs.declared.Listed.{Listed}
 use Rattle.ledger.specs.declared.Reply.{Reply}
 use Rattle.ledger.specs.declared.Sent.{Sent}
 use Rattle.ledger.specs.declared.Members.{Members}

@@ -17,14 +17,14 @@ use Rattle.rules.specs.History.{History, owner, radiosIn, refusalIn, sentIn}
 use Rattle.rules.specs.Run.{run}
 use Rattle.rules.proofs.Agree.{refusal-agree, sent-agree, list-agree, show-agree}
 use Rattle.rules.proofs.Demand.{list-exact, show-exact}
-use Rattle.ledger.specs.Lists.{onto}
-use Rattle.ledger.specs.Storage.{Contents}
+use Rattle.store.specs.Lists.{onto}
+use Rattle.store.specs.Storage.{Contents}
 use Rattle.ledger.specs.Orders.{replyOf, verdict}
 use Rattle.ledger.specs.Sending.{orderRow, sentOn, sentReply}
 use Rattle.ledger.specs.Listing.{entryRow, listOn, membersReply, membersOf}
 use Rattle.ledger.specs.Showing.{showOn, shownAs, shownOf}
-use Rattle.ledger.specs.declared.Gtsi.{Gtsi}
-use Rattle.ledger.specs.declared.Itsi.{Itsi}
+use Rattle.order.specs.declared.Gtsi.{Gtsi}
+use Rattle.order.specs.declared.Itsi.{Itsi}
 use Rattle.ledger.specs.declared.Reply.{Reply}
 use Rattle.ledger.specs.declared.Sent.{Sent}
 use Rattle.ledger.specs.declared.Members.{Members}

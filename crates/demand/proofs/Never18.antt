@@ -16,8 +16,8 @@ use Rattle.rules.specs.World.{World, Tally}
 use Rattle.rules.specs.Refusals.{first, tests, refusal, showRefusal, askTests, listRefusal, listTests}
 use Rattle.rules.specs.Effect.{effect}
 use Rattle.rules.specs.History.{History, _then_, world, namedIn, tallyIn, radiosIn, refusalIn, sentIn, listIn, showIn}
-use Rattle.ledger.specs.Storage.{Contents}
-use Rattle.ledger.specs.Form.{roomy}
+use Rattle.store.specs.Storage.{Contents}
+use Rattle.store.specs.Form.{roomy}
 use Rattle.ledger.specs.Orders.{emptyVerdict, answerOf}
 use Rattle.ledger.specs.Defines.{defineStep}
 use Rattle.ledger.specs.Deletes.{deleteOf}

@@ -13,8 +13,8 @@ use Rattle.rules.specs.History.{History, start, _then_}
 use Rattle.rules.specs.Run.{run}
 use Rattle.rules.specs.Written.{written}
 use Rattle.rules.proofs.Written.{step-written, empty-written}
-use Rattle.ledger.specs.Storage.{Contents, ledgerOf, laid}
-use Rattle.ledger.specs.Form.{roomy, Sound}
+use Rattle.store.specs.Storage.{Contents, ledgerOf, laid}
+use Rattle.store.specs.Form.{roomy, Sound}
 use Rattle.ledger.specs.Orders.{replyOf, emptyVerdict, emptied, after}
 use Rattle.ledger.specs.declared.Reply.{Reply}
 use Rattle.ledger.specs.declared.Sent.{Sent}

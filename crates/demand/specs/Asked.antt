@@ -5,14 +5,14 @@ use Prim.Native.Nat.{ℕ}
 use Rattle.frame.specs.declared.Record.{Record}
 use Rattle.rules.specs.Order as order
 use Rattle.rules.specs.History.{History, start, _then_}
-use Rattle.ledger.specs.Storage.{Contents}
+use Rattle.store.specs.Storage.{Contents}
 use Rattle.ledger.specs.Orders.{answerOf}
 use Rattle.ledger.specs.Defines.{defineStep}
 use Rattle.ledger.specs.Deletes.{deleteOf}
-use Rattle.ledger.specs.declared.Gtsi.{Gtsi}
-use Rattle.ledger.specs.declared.Itsi.{Itsi}
-use Rattle.ledger.specs.declared.Numbers.{Numbers}
-use Rattle.ledger.specs.declared.Listed.{Listed}
+use Rattle.order.specs.declared.Gtsi.{Gtsi}
+use Rattle.order.specs.declared.Itsi.{Itsi}
+use Rattle.order.specs.declared.Numbers.{Numbers}
+use Rattle.order.specs.declared.Listed.{Listed}
 use Rattle.demand.specs.Runs.{Kept}
 
 -- the last number of a define and of a delete is the rows of room lent for what goes out

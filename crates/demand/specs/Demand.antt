@@ -12,19 +12,19 @@ use Rattle.rules.specs.Replies as replies
 use Rattle.rules.specs.History.{History, owner, radiosIn, refusalIn, sentIn, listIn, showIn}
 use Rattle.rules.specs.Run.{run}
 use Rattle.rules.specs.Demand.{Exactly, Tells}
-use Rattle.ledger.specs.Lists.{onto}
-use Rattle.ledger.specs.Storage.{Contents, ledgerOf}
-use Rattle.ledger.specs.Form.{isWritten}
+use Rattle.store.specs.Lists.{onto}
+use Rattle.store.specs.Storage.{Contents, ledgerOf}
+use Rattle.store.specs.Form.{isWritten}
 use Rattle.ledger.specs.Orders.{replyOf, answerOf}
 use Rattle.ledger.specs.Sending.{orderRow, sentReply}
 use Rattle.ledger.specs.Defines.{defineStep}
 use Rattle.ledger.specs.Deletes.{deleteOf}
 use Rattle.ledger.specs.Listing.{entryRow, membersOf}
 use Rattle.ledger.specs.Showing.{shownAs, shownOf}
-use Rattle.ledger.specs.declared.Gtsi.{Gtsi}
-use Rattle.ledger.specs.declared.Itsi.{Itsi}
-use Rattle.ledger.specs.declared.Numbers.{Numbers}
-use Rattle.ledger.specs.declared.Listed.{Listed}
+use Rattle.order.specs.declared.Gtsi.{Gtsi}
+use Rattle.order.specs.declared.Itsi.{Itsi}
+use Rattle.order.specs.declared.Numbers.{Numbers}
+use Rattle.order.specs.declared.Listed.{Listed}
 use Rattle.ledger.specs.declared.Reply.{Reply}
 use Rattle.ledger.specs.declared.Reply.the-variants.{Done, Refused}
 use Rattle.ledger.specs.declared.Sent.{Sent}

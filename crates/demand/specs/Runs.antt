@@ -6,14 +6,14 @@ use lib.ListN.{length}
 use Rattle.frame.specs.declared.Record.{Record}
 use Rattle.rules.specs.Order.{tick}
 use Rattle.rules.specs.History.{History, start, _then_}
-use Rattle.ledger.specs.Storage.{Contents}
+use Rattle.store.specs.Storage.{Contents}
 use Rattle.ledger.specs.Orders.{answerOf}
 use Rattle.ledger.specs.Defines.{defineStep}
 use Rattle.ledger.specs.Deletes.{deleteOf}
-use Rattle.ledger.specs.declared.Gtsi.{Gtsi}
-use Rattle.ledger.specs.declared.Itsi.{Itsi}
-use Rattle.ledger.specs.declared.Numbers.{Numbers}
-use Rattle.ledger.specs.declared.Listed.{Listed}
+use Rattle.order.specs.declared.Gtsi.{Gtsi}
+use Rattle.order.specs.declared.Itsi.{Itsi}
+use Rattle.order.specs.declared.Numbers.{Numbers}
+use Rattle.order.specs.declared.Listed.{Listed}
 use Rattle.ledger.specs.declared.Reply.{Reply}
 use Rattle.ledger.specs.declared.Reply.the-variants.{Done}
 use Rattle.ledger.specs.declared.Sent.{Sent}

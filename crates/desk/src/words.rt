@@ -1,8 +1,8 @@
 // The words of a line. A reader goes from a place of the line to the place behind what it read.
 // Where something else stands it goes to NOWHERE, and from NOWHERE no reader comes back: a line is good where its last reader ends at the line's end.
-use ledger::Identity;
-use ledger::Listed;
-use ledger::Numbers;
+use order::Identity;
+use order::Listed;
+use order::Numbers;
 ghost use mathlib.Core.Path.{_≡_};
 ghost use Prim.Native.Nat.{_≤_};
 

@@ -2,24 +2,22 @@
 use mathlib.Core.Path.{_≡_, refl, sym, ap, _∙_}
 use mathlib.Core.Bool.{Bool, true, false, cond}
 use mathlib.Core.List.{List, [], _∷_, _++_, map}
-use Prim.Native.Nat.{ℕ, zero, suc, _+_, _≤_, _<_}
+use Prim.Native.Nat.{ℕ, _+_, _≤_, _<_}
 use native.Mathlib.Numerals.{add-one}
 use native.Mathlib.Omega.{arith}
-use lib.Dec.{eqb}
 use lib.ListN.{length, getD, set, take, length-append, length-set}
-use lib.Seq.{take-suc, ext-getD, getD-set-same, getD-set-other}
-use borrow.Author.Tests.{eqb-true, eqb-false}
+use lib.Seq.{take-suc}
 use Rattle.rules.specs.Lists.{keep, sum}
 use Rattle.rules.specs.Entries.{put, puts}
 use Rattle.rules.specs.Mark.{Mark, fresh}
 use Rattle.rules.specs.Ledger.{Pair, samePair, product}
 use Rattle.rules.proofs.Walks.{keep-append, sum-append, length-put, puts-append}
 use Rattle.rules.proofs.Effects.{pair-sound, pair-itself}
-use Rattle.ledger.specs.Lists.{Plain, onto}
-use Rattle.ledger.specs.Storage.{pairOf, pairRow, pairsOf}
-use Rattle.ledger.specs.Defines.{setPair, setRadios, setAll, words}
-use Rattle.ledger.proofs.Rows.{length-items}
-use Rattle.ledger.proofs.Places.{Row, Missing}
+use Rattle.store.specs.Lists.{Plain, onto}
+use Rattle.store.specs.Storage.{pairOf, pairRow, pairsOf}
+use Rattle.ledger.specs.Defines.{setPair, setRadios, setAll}
+use Rattle.store.proofs.Rows.{length-items}
+use Rattle.store.proofs.Places.{Row, Missing}
 use Rattle.ledger.proofs.Puts.{lay-set, lay-last, each-grows}
 
 -- a walk that counts what passes
@@ -87,27 +85,3 @@ set-product state radios (g ∷ groups) l =
 
 pub sum-turn : (f : ℕ → ℕ) (xs : List ℕ) (i n m : ℕ) → i < length xs → n ≡ sum f (take i xs) → m ≡ f (getD xs i 0) → n + m ≡ sum f (take (i + 1) xs)
 sum-turn f xs i n m h e d = rw (add-one, take-suc xs i 0 h) (omega (arith, sum-append f (take i xs) (getD xs i 0 ∷ [])))
-
--- ---- a row made word by word ----
-
-length-words : (f : ℕ → ℕ) (n k : ℕ) → length (words f n k) ≡ n
-length-words f zero k = refl
-length-words f (suc n) k = ap suc (length-words f n (suc k))
-
-words-at : (f : ℕ → ℕ) (n k j : ℕ) → j < n → getD (words f n k) j 0 ≡ f (k + j)
-words-at f zero k j h = absurd (omega arith)
-words-at f (suc n) k zero h = let e : k ≡ k + 0 = omega arith in ap f e
-words-at f (suc n) k (suc j) h = let e : suc k + j ≡ k + suc j = omega arith in words-at f n (suc k) j (omega arith) ∙ ap f e
-
-pub words-all : (f : ℕ → ℕ) (n : ℕ) (row : List ℕ) → length row ≡ n → ((j : ℕ) → j < n → getD row j 0 ≡ f j) → row ≡ words f n 0
-words-all f n row e h = ext-getD 0 row (words f n 0) (e ∙ sym (length-words f n 0)) (λ j q. let m : j < n = omega arith in let z : 0 + j ≡ j = omega arith in h j m ∙ sym (words-at f n 0 j m ∙ ap f z))
-
-pub words-more : (f : ℕ → ℕ) (row : List ℕ) (i v : ℕ) → i < length row → v ≡ f i → ((j : ℕ) → j < i → getD row j 0 ≡ f j) → (j : ℕ) → j < i + 1 → getD (set row i v) j 0 ≡ f j
-words-more f row i v h e w j q = go (eqb j i) refl
-  where
-    go : (b : Bool) → eqb j i ≡ b → getD (set row i v) j 0 ≡ f j
-    go true t = let m = eqb-true j i t in rw m (getD-set-same row i v 0 h ∙ e)
-    go false t = getD-set-other row i j v 0 (eqb-false j i t) ∙ w j (less (eqb-false j i t))
-      where
-        less : (j ≡ i → ⊥) → j < i
-        less n = omega arith

@@ -25,17 +25,19 @@ use Rattle.rules.proofs.Tests.{and-l, and-r, or-l, or-r}
 use Rattle.rules.proofs.Walks.{putsNow, length-orders}
 use Rattle.rules.proofs.Sound.{bad-order}
 use Rattle.rules.proofs.Steps.{define-lists, define-groups-total, define-pairs-total}
-use Rattle.ledger.specs.Lists.{onto}
-use Rattle.ledger.specs.Storage.{Contents, contents, groupRow, pairRow, ledgerOf, laid}
-use Rattle.ledger.specs.Form.{Sound}
-use Rattle.ledger.specs.Lent.{listOf, groupFault}
+use Rattle.store.specs.Lists.{onto}
+use Rattle.store.specs.Storage.{Contents, contents, groupRow, pairRow, ledgerOf, laid}
+use Rattle.store.specs.Form.{Sound}
+use Rattle.order.specs.Lists.{listOf}
+use Rattle.ledger.specs.Named.{groupFault}
 use Rattle.ledger.specs.Orders.{replyOf, verdict}
-use Rattle.ledger.specs.Defines.{defineStep, groupsListed, ownersListed, radiosListed, defineForm, defineStand, groupFrom, makeGroups, defined, groupsMade, pairsSet, ordersSent, Fine, FineGroups}
-use Rattle.ledger.specs.declared.Itsi.{Itsi}
-use Rattle.ledger.specs.declared.Listed.{Listed}
+use Rattle.ledger.specs.Defines.{defineStep, defineForm, defineStand, groupFrom, makeGroups, defined, groupsMade, pairsSet, ordersSent, Fine, FineGroups}
+use Rattle.order.specs.Recorded.{groupsListed, ownersListed, radiosListed}
+use Rattle.order.specs.declared.Itsi.{Itsi}
+use Rattle.order.specs.declared.Listed.{Listed}
 use Rattle.ledger.specs.declared.Standing.the-variants.{Taken}
 use Rattle.ledger.specs.declared.Reply.the-variants.{Done, Refused}
-use Rattle.ledger.proofs.Form.{law-form}
+use Rattle.store.proofs.Form.{law-form}
 use Rattle.ledger.proofs.Listing.{first-none, first-some, reply-none, reply-some}
 use Rattle.ledger.proofs.Orders.{tests-pass}
 use Rattle.ledger.proofs.Deletes.{given-present, set-both}

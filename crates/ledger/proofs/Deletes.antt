@@ -21,20 +21,20 @@ use Rattle.rules.proofs.EntryLaws.{Single}
 use Rattle.rules.proofs.Walks.{alter-out}
 use Rattle.rules.proofs.Listing.{listed-members, entries-radios}
 use Rattle.rules.proofs.Written.{written-form}
-use Rattle.ledger.specs.Lists.{onto}
-use Rattle.ledger.specs.Storage.{Contents, contents, groupRow, pairRow, ledgerOf, laid}
-use Rattle.ledger.specs.Form.{Sound}
+use Rattle.store.specs.Lists.{onto}
+use Rattle.store.specs.Storage.{Contents, contents, groupRow, pairRow, ledgerOf, laid}
+use Rattle.store.specs.Form.{Sound}
 use Rattle.ledger.specs.Turns.{turnOf}
-use Rattle.ledger.specs.Lent.{numbersOf, listOf}
+use Rattle.order.specs.Lists.{numbersOf, listOf}
 use Rattle.ledger.specs.Orders.{replyOf, verdict}
 use Rattle.ledger.specs.Sending.{leavingOrders, remaining}
 use Rattle.ledger.specs.Deletes.{deleteOf, formTests, standTests, deleteTurn, goneOf}
-use Rattle.ledger.specs.declared.Itsi.{Itsi}
-use Rattle.ledger.specs.declared.Numbers.{Numbers}
-use Rattle.ledger.specs.declared.Listed.{Listed}
+use Rattle.order.specs.declared.Itsi.{Itsi}
+use Rattle.order.specs.declared.Numbers.{Numbers}
+use Rattle.order.specs.declared.Listed.{Listed}
 use Rattle.ledger.specs.declared.Turn.{Turn}
 use Rattle.ledger.specs.declared.Reply.the-variants.{Done, Refused}
-use Rattle.ledger.proofs.Form.{law-form}
+use Rattle.store.proofs.Form.{law-form}
 use Rattle.ledger.proofs.Listing.{first-none, first-some, reply-none, reply-some}
 use Rattle.ledger.proofs.Orders.{alter-same, tests-pass}
 use borrow.Author.Tests.{ltb-false}

@@ -1,15 +1,9 @@
 -- Laws that the ledger's proofs share.
-pub mod Rows
-pub mod Storage
-pub mod Places
-pub mod Tests
-pub mod Groups
-pub mod Form
+pub mod Marks
 pub mod Orders
 pub mod Listing
 pub mod Filling
 pub mod Merging
-pub mod Lent
 pub mod Sending
 pub mod Deletes
 pub mod Defining
@@ -18,6 +12,4 @@ pub mod Showing
 pub mod Puts
 pub mod Defines
 pub mod Making
-pub mod Named
 pub mod OrderRows
-pub mod Recorded

@@ -19,17 +19,18 @@ use Rattle.rules.proofs.EntryLaws.{Single}
 use Rattle.rules.proofs.Written.{written-form}
 use Rattle.rules.proofs.Listing.{listed-members, length-listed}
 use Rattle.rules.specs.Listing.{insertEntry, listedIn}
-use Rattle.ledger.specs.Lists.{left, onto}
-use Rattle.ledger.specs.Storage.{Contents, ledgerOf}
-use Rattle.ledger.specs.Form.{isWritten, Sound}
+use Rattle.order.specs.Walks.{left}
+use Rattle.store.specs.Lists.{onto}
+use Rattle.store.specs.Storage.{Contents, ledgerOf}
+use Rattle.store.specs.Form.{isWritten, Sound}
 use Rattle.ledger.specs.Orders.{replyOf, judged}
 use Rattle.ledger.specs.Listing.{entryRow, insertRow, placeIn, gap, listOn, membersOf}
-use Rattle.ledger.specs.declared.Gtsi.{Gtsi}
-use Rattle.ledger.specs.declared.Itsi.{Itsi}
+use Rattle.order.specs.declared.Gtsi.{Gtsi}
+use Rattle.order.specs.declared.Itsi.{Itsi}
 use Rattle.ledger.specs.declared.Reply.the-variants.{Done, Refused}
 use Rattle.ledger.specs.declared.Members.the-variants as members
-use Rattle.ledger.proofs.Form.{law-form}
-use Rattle.ledger.proofs.Rows.{left-cons, left-end}
+use Rattle.store.proofs.Form.{law-form}
+use Rattle.order.proofs.Walks.{left-cons, left-end}
 
 pub gap-same : (o : List (List ℕ)) (k : ℕ) → gap k k o ≡ o
 gap-same o k = rw (left-end o k k (omega arith)) (take-append-drop (k + 1) o)

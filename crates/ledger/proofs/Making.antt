@@ -14,12 +14,13 @@ use Rattle.rules.specs.Entries.{find, put}
 use Rattle.rules.proofs.ListLaws.{eqb-same}
 use Rattle.rules.proofs.Walks.{length-put}
 use Rattle.rules.specs.Ledger.{Group}
-use Rattle.ledger.specs.Lists.{Plain, onto}
-use Rattle.ledger.specs.Storage.{groupOf, groupRow, groupsOf, heldOf, lettersOf, counted}
-use Rattle.ledger.specs.Defines.{words, madeRow, groupFrom, makeGroup, Fine, FineGroups}
-use Rattle.ledger.proofs.Groups.{name-few, group-back}
-use Rattle.ledger.proofs.Rows.{length-items}
-use Rattle.ledger.proofs.Places.{Row, Missing}
+use Rattle.store.specs.Lists.{Plain, onto}
+use Rattle.store.specs.Storage.{groupOf, groupRow, groupsOf, counted}
+use Rattle.order.specs.Row.{heldOf, lettersOf, words}
+use Rattle.ledger.specs.Defines.{madeRow, groupFrom, makeGroup, Fine, FineGroups}
+use Rattle.store.proofs.Groups.{name-few, group-back}
+use Rattle.store.proofs.Rows.{length-items}
+use Rattle.store.proofs.Places.{Row, Missing}
 use Rattle.ledger.proofs.Puts.{lay-set, lay-last}
 
 held-over : (new old : Option ℕ) → cond (eqb (heldOf new) 0) (heldOf old) (heldOf new) ≡ heldOf (over new old)

@@ -10,9 +10,10 @@ use lib.ListN.{length, getD, take, drop, replicate, length-take}
 use Rattle.rules.specs.Parameters.{badName}
 use Rattle.rules.specs.Ledger.{Group}
 use Rattle.rules.specs.Recorded.{optional, letterCount, letters, valueAt, optionalName, parametersIn}
-use Rattle.ledger.specs.Storage.{groupOf, groupRow, lettersOf}
-use Rattle.ledger.specs.Defines.{words, valueWord, orderRowOf, Fine}
-use Rattle.ledger.proofs.Groups.{group-back}
+use Rattle.store.specs.Storage.{groupOf, groupRow}
+use Rattle.order.specs.Row.{lettersOf, words, valueWord, orderRowOf}
+use Rattle.ledger.specs.Defines.{Fine}
+use Rattle.store.proofs.Groups.{group-back}
 
 -- ---- a list in n words, zeros behind it ----
 

@@ -18,20 +18,20 @@ use Rattle.rules.specs.Outgoing.{Outgoing, outgoing}
 use Rattle.rules.specs.Refusals.{first, accepted}
 use Rattle.rules.specs.Ledger.{Pair, empty, view, tally, apply, refused, step, sent}
 use Rattle.rules.proofs.Walks.{keep-all}
-use Rattle.ledger.specs.Lists.{onto}
-use Rattle.ledger.specs.Storage.{Contents, contents, groupOf, groupRow, groupsOf, pairOf, pairRow, pairsOf, groupCount, pairCount, ledgerOf, laid}
-use Rattle.ledger.specs.Form.{isWritten, Sound}
+use Rattle.store.specs.Lists.{onto}
+use Rattle.store.specs.Storage.{Contents, contents, groupOf, groupRow, groupsOf, pairOf, pairRow, pairsOf, groupCount, pairCount, ledgerOf, laid}
+use Rattle.store.specs.Form.{isWritten, Sound}
 use Rattle.ledger.specs.Orders.{replyOf, verdict, after, answerOf}
 use Rattle.ledger.specs.Sending.{sentOn, sentReply}
 use Rattle.ledger.specs.declared.Sent.the-variants as sends
 use Rattle.ledger.specs.Turns.{staysOf, markOf, turnOf, answerTurn}
 use Rattle.ledger.specs.declared.Turn.the-variants.{Confirm, Leave}
 use Rattle.ledger.specs.declared.Turn.{Turn}
-use Rattle.ledger.specs.declared.Gtsi.{Gtsi}
-use Rattle.ledger.specs.declared.Itsi.{Itsi}
+use Rattle.order.specs.declared.Gtsi.{Gtsi}
+use Rattle.order.specs.declared.Itsi.{Itsi}
 use Rattle.ledger.specs.declared.Reply.the-variants.{Done, Refused}
-use Rattle.ledger.proofs.Form.{Room}
-use Rattle.ledger.proofs.Rows.{length-items, lay-plain}
+use Rattle.store.proofs.Form.{Room}
+use Rattle.store.proofs.Rows.{length-items, lay-plain}
 
 -- ---- the reply, and what is left ----
 

@@ -6,8 +6,9 @@ use native.Mathlib.Numerals.{add-one}
 use native.Mathlib.Omega.{arith}
 use lib.ListN.{length, getD, set, take, drop, length-map, length-set, List·getD-append}
 use lib.Seq.{take-suc, take-at, set-append-left}
-use Rattle.ledger.specs.Lists.{Plain, each}
-use Rattle.ledger.proofs.Rows.{onto-onto, items, lay, lay-plain, lay-more, lay-length, length-items}
+use Rattle.store.specs.Lists.{Plain}
+use Rattle.ledger.specs.Lists.{each}
+use Rattle.store.proofs.Rows.{onto-onto, items, lay, lay-plain, lay-more, lay-length, length-items}
 
 map-set : {A B : Type 0} (f : A → B) (l : List A) (i : ℕ) (x : A) → map f (set l i x) ≡ set (map f l) i (f x)
 map-set f [] i x = refl

@@ -17,14 +17,14 @@ use Rattle.rules.specs.Demand.{radiosListed}
 use Rattle.rules.specs.Ledger.{Group, Pair}
 use Rattle.rules.specs.Outgoing.{Outgoing, orders}
 use Rattle.rules.proofs.Walks.{keep-append, join-append}
-use Rattle.ledger.specs.Lists.{onto}
+use Rattle.store.specs.Lists.{onto}
 use Rattle.ledger.specs.Listing.{entryRow}
 use Rattle.ledger.specs.Sending.{orderRow, firsts}
-use Rattle.ledger.specs.Lent.{groupFault, ownedAs, failsAs}
+use Rattle.ledger.specs.Named.{groupFault, ownedAs, failsAs}
 use Rattle.ledger.specs.declared.Owned.the-variants.{Own, Other}
 use Rattle.ledger.specs.declared.Standing.{Standing}
 use Rattle.ledger.specs.declared.Standing.the-variants.{Missing, Foreign, Taken}
-use Rattle.ledger.proofs.Rows.{onto-more, map-snoc}
+use Rattle.store.proofs.Rows.{onto-more, map-snoc}
 use Rattle.ledger.proofs.Listing.{entry-length}
 
 -- what is wrong with a group goes by whose it is

@@ -4,7 +4,7 @@ use contract.Lifetimes.{Lfts}
 use borrow.Fn.Kinds.{Dens, resT, endedOf}
 use denote.Triple.Clauses.{AtExit}
 use denote.Ref.{now}
-use Rattle.ledger.specs.Storage.{Contents}
+use Rattle.store.specs.Storage.{Contents}
 use Rattle.ledger.proofs.empty.Kinds as empty-kinds
 use Rattle.ledger.proofs.empty.Reads as empty
 use Rattle.ledger.proofs.tick.Kinds as tick-kinds

@@ -1,6 +1,6 @@
 -- What a define does, in plain lists, one number after the other.
 use mathlib.Core.Path.{_≡_}
-use Prim.Native.Nat.{ℕ, zero, suc, _+_, _-_, _*_, _≤_}
+use Prim.Native.Nat.{ℕ, _+_, _*_, _≤_}
 use mathlib.Core.Bool.{Bool, false, cond, not, _||_}
 use mathlib.Core.Option.{Option, none, some}
 use mathlib.Core.List.{List, [], _∷_}
@@ -11,7 +11,7 @@ use Rattle.refusal.specs.declared.Refusal.the-variants.{BadOrder, FormNotTaken,
 use Rattle.frame.specs.Frame.{judgedOf}
 use Rattle.frame.specs.declared.Kind.the-variants as kind
 use Rattle.rules.specs.Lists.{keep, present, join, sum, any, once}
-use Rattle.rules.specs.Number.{Numbers, wide, untaken, numbersIn}
+use Rattle.rules.specs.Number.{wide, untaken, numbersIn}
 use Rattle.rules.specs.Order.{Step, define}
 use Rattle.rules.specs.Refusals.{refuses, maxGroups, maxPairs}
 use Rattle.rules.specs.Entries.{find, put}
@@ -19,12 +19,14 @@ use Rattle.rules.specs.Mark.{Mark, fresh, begun}
 use Rattle.rules.specs.Outgoing.{Outgoing, orders}
 use Rattle.rules.specs.Parameters.{replaced, badName}
 use Rattle.rules.specs.Ledger.{Group, Pair, samePair, parametersOf}
-use Rattle.rules.specs.Recorded.{optionalNumber, optionalChoice, optionalName, listed, saysYes, optionalYes, callRelated, groupGiven, groupNumbers, setReference, ownersIncluded, ownerNumbers, acknowledgedCall, broadcast, assignment, radioNumbers, classOfUsage, attachmentLifetime, temporaryAssignment, acknowledgementRequested, optional, parametersIn, defineOf}
-use Rattle.ledger.specs.Storage.{heldOf, lettersOf}
+use Rattle.rules.specs.Recorded.{saysYes, optionalYes, callRelated, ownersIncluded, acknowledgementRequested, optional, parametersIn, defineOf}
+use Rattle.order.specs.Row.{words}
+use Rattle.order.specs.Recorded.{groupsListed, ownersListed, radiosListed}
 use Rattle.ledger.specs.Lists.{each}
-use Rattle.ledger.specs.Lent.{listOf, groupFault}
-use Rattle.ledger.specs.declared.Itsi.{Itsi}
-use Rattle.ledger.specs.declared.Listed.{Listed}
+use Rattle.order.specs.Lists.{listOf}
+use Rattle.ledger.specs.Named.{groupFault}
+use Rattle.order.specs.declared.Itsi.{Itsi}
+use Rattle.order.specs.declared.Listed.{Listed}
 use Rattle.ledger.specs.declared.Standing.the-variants.{Taken}
 
 -- a pair is set: in its place, or behind the others
@@ -61,11 +63,6 @@ keepsWord keeps order j = cond (ltb j 7) (eqb (getD order j 0) 0) (cond (ltb j 2
 abbrev pub madeWord : ℕ → Bool → List ℕ → List ℕ → ℕ → ℕ
 madeWord g keeps order old j = cond (eqb j 0) g (cond (keepsWord keeps order j) (getD old j 0) (getD order j 0))
 
--- n words from place k on
-abbrev pub words : (ℕ → ℕ) → ℕ → ℕ → List ℕ
-words f zero k = []
-words f (suc n) k = f k ∷ words f n (suc k)
-
 unfoldable pub madeRow : ℕ → Bool → List ℕ → List ℕ → List ℕ
 madeRow g keeps order old = words (madeWord g keeps order old) 36 0
 
@@ -92,36 +89,11 @@ abbrev pub FineGroups : List (ℕ × Group) → Type 0
 FineGroups [] = Unit {0}
 FineGroups (e ∷ l) = Fine (e .1) × FineGroups l
 
--- ---- the order's row, read off a DEFINE record: its parameters, and the owners that it gives ----
-
-abbrev pub valueWord : List ℕ → ℕ → ℕ
-valueWord places j =
-    cond (eqb j 1) (heldOf (optionalNumber places setReference)) (cond (eqb j 2) (heldOf (optionalChoice places acknowledgedCall)) (cond (eqb j 3) (heldOf (optionalChoice places broadcast))
-    (cond (eqb j 4) (heldOf (optionalNumber places classOfUsage)) (cond (eqb j 5) (heldOf (optionalNumber places attachmentLifetime)) (heldOf (optionalNumber places temporaryAssignment))))))
-
-abbrev pub orderWord : List ℕ → List ℕ → ℕ → ℕ
-orderWord places owners j =
-    cond (eqb j 0) 0 (cond (ltb j 7) (valueWord places j) (cond (eqb j 7) (length (lettersOf (optionalName places)))
-    (cond (ltb j 24) (getD (lettersOf (optionalName places)) (j - 8) 0) (cond (eqb j 24) (length owners) (getD owners (j - 25) 0)))))
-
-unfoldable pub orderRowOf : List ℕ → List ℕ → List ℕ
-orderRowOf places owners = words (orderWord places owners) 36 0
-
 -- ---- the DEFINE order off a record's places ----
 
 -- the order of an asker, with the room for what goes out
 abbrev pub defineStep : Itsi → List ℕ → ℕ → Step
 defineStep asker places room = define (defineOf (asker .0) places) room
-
--- its lists
-abbrev pub groupsListed : List ℕ → Option Numbers
-groupsListed places = listed places (saysYes places groupGiven) groupNumbers
-
-abbrev pub ownersListed : List ℕ → Option Numbers
-ownersListed places = listed places (optionalYes places ownersIncluded) ownerNumbers
-
-abbrev pub radiosListed : List ℕ → Option Numbers
-radiosListed places = listed places (optionalYes places assignment) radioNumbers
 
 -- the tests of its form, and those of what stands
 abbrev pub defineForm : Itsi → List ℕ → Listed → Listed → Listed → List (Refusal × Bool)

@@ -12,11 +12,12 @@ use Rattle.rules.specs.Mark.{Mark}
 use Rattle.rules.specs.Number.{wide, badList, untaken}
 use Rattle.rules.specs.Order.{Step, delete}
 use Rattle.rules.specs.Ledger.{Group, Pair}
-use Rattle.ledger.specs.Lent.{numbersOf, listOf, groupFault}
+use Rattle.order.specs.Lists.{numbersOf, listOf}
+use Rattle.ledger.specs.Named.{groupFault}
 use Rattle.ledger.specs.Sending.{leavingOrders}
-use Rattle.ledger.specs.declared.Itsi.{Itsi}
-use Rattle.ledger.specs.declared.Numbers.{Numbers}
-use Rattle.ledger.specs.declared.Listed.{Listed}
+use Rattle.order.specs.declared.Itsi.{Itsi}
+use Rattle.order.specs.declared.Numbers.{Numbers}
+use Rattle.order.specs.declared.Listed.{Listed}
 use Rattle.ledger.specs.declared.Standing.the-variants.{Missing, Foreign}
 use Rattle.ledger.specs.declared.Turn.{Turn}
 use Rattle.ledger.specs.declared.Turn.the-variants.{Leave, LeaveAll}

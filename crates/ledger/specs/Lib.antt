@@ -1,12 +1,10 @@
 -- The definitions that the ledger's contracts cite.
 pub mod Lists
-pub mod Storage
-pub mod Places
+pub mod Marks
 pub mod Turns
-pub mod Form
 pub mod Orders
 pub mod Listing
-pub mod Lent
+pub mod Named
 pub mod Sending
 pub mod Deletes
 pub mod Showing

@@ -1,21 +1,5 @@
--- Parts of a list, as the walks over lent rows see them.
-use mathlib.Core.Path.{_≡_}
-use mathlib.Core.List.{List, [], _∷_, _++_}
-use Prim.Native.Nat.{ℕ, _<_}
-use lib.ListN.{length, getD, take, drop}
-
-module _ {A : Type 0} where
-  -- of the first n of a list, those from place i on
-  abbrev pub left : ℕ → ℕ → List A → List A
-  left i n l = drop i (take n l)
-
-  -- a list laid onto the front of another: what lies past it stays
-  abbrev pub onto : List A → List A → List A
-  onto k l = k ++ drop (length k) l
-
--- each of the first n rows is the row of what it says
-abbrev pub Plain : {X : Type 0} → (List ℕ → X) → (X → List ℕ) → ℕ → List (List ℕ) → Type 0
-Plain itemOf rowOf n rows = (i : ℕ) → i < n → rowOf (itemOf (getD rows i [])) ≡ getD rows i []
+-- What is done for each element of a list.
+use mathlib.Core.List.{List, [], _∷_}
 
 -- a list's elements applied one after the other
 abbrev pub each : {A B : Type 0} → (A → B → B) → List A → B → B

@@ -7,10 +7,10 @@ use Rattle.refusal.specs.declared.Refusal.the-variants.{NotWritten}
 use Rattle.rules.specs.Order.{Step, answer}
 use Rattle.rules.specs.Refusals.{accepted}
 use Rattle.rules.specs.Ledger.{empty, refused, step}
-use Rattle.ledger.specs.Storage.{Contents, ledgerOf, laid}
-use Rattle.ledger.specs.Form.{roomy, isWritten}
-use Rattle.ledger.specs.declared.Gtsi.{Gtsi}
-use Rattle.ledger.specs.declared.Itsi.{Itsi}
+use Rattle.store.specs.Storage.{Contents, ledgerOf, laid}
+use Rattle.store.specs.Form.{roomy, isWritten}
+use Rattle.order.specs.declared.Gtsi.{Gtsi}
+use Rattle.order.specs.declared.Itsi.{Itsi}
 use Rattle.ledger.specs.declared.Reply.{Reply}
 use Rattle.ledger.specs.declared.Reply.the-variants.{Done, Refused}
 

@@ -14,7 +14,7 @@ use Rattle.rules.specs.Listing.{listedIn}
 use Rattle.rules.specs.Refusals.{accepted}
 use Rattle.rules.specs.Ledger.{Group, Pair, samePair, sent}
 use Rattle.rules.specs.Demand.{radiosListed}
-use Rattle.ledger.specs.Storage.{Contents, ledgerOf}
+use Rattle.store.specs.Storage.{Contents, ledgerOf}
 use Rattle.ledger.specs.Orders.{verdict}
 use Rattle.ledger.specs.declared.Sent.{Sent}
 use Rattle.ledger.specs.declared.Sent.the-variants as reply

@@ -1,0 +1,7 @@
+-- Laws of an order's lists and row.
+pub mod Walks
+pub mod Lists
+pub mod Words
+pub mod Named
+pub mod Recorded
+pub mod Unique

@@ -1,0 +1,5 @@
+-- The definitions that the contracts of an order's lists and row cite.
+pub mod Walks
+pub mod Lists
+pub mod Row
+pub mod Recorded

@@ -1,0 +1,35 @@
+-- The order's row, read off a DEFINE record: its parameters, and the owners that it gives.
+use Prim.Native.Nat.{ℕ, zero, suc, _-_}
+use mathlib.Core.Bool.{cond}
+use mathlib.Core.Option.{Option, none, some}
+use mathlib.Core.List.{List, [], _∷_}
+use lib.Dec.{eqb, ltb}
+use lib.ListN.{length, getD}
+use Rattle.rules.specs.Recorded.{optionalNumber, optionalChoice, optionalName, setReference, acknowledgedCall, broadcast, classOfUsage, attachmentLifetime, temporaryAssignment}
+
+-- a value that may be absent, one up
+abbrev pub heldOf : Option ℕ → ℕ
+heldOf none = 0
+heldOf (some v) = suc v
+
+abbrev pub lettersOf : Option (List ℕ) → List ℕ
+lettersOf none = []
+lettersOf (some letters) = letters
+
+-- n words from place k on
+abbrev pub words : (ℕ → ℕ) → ℕ → ℕ → List ℕ
+words f zero k = []
+words f (suc n) k = f k ∷ words f n (suc k)
+
+abbrev pub valueWord : List ℕ → ℕ → ℕ
+valueWord places j =
+    cond (eqb j 1) (heldOf (optionalNumber places setReference)) (cond (eqb j 2) (heldOf (optionalChoice places acknowledgedCall)) (cond (eqb j 3) (heldOf (optionalChoice places broadcast))
+    (cond (eqb j 4) (heldOf (optionalNumber places classOfUsage)) (cond (eqb j 5) (heldOf (optionalNumber places attachmentLifetime)) (heldOf (optionalNumber places temporaryAssignment))))))
+
+abbrev pub orderWord : List ℕ → List ℕ → ℕ → ℕ
+orderWord places owners j =
+    cond (eqb j 0) 0 (cond (ltb j 7) (valueWord places j) (cond (eqb j 7) (length (lettersOf (optionalName places)))
+    (cond (ltb j 24) (getD (lettersOf (optionalName places)) (j - 8) 0) (cond (eqb j 24) (length owners) (getD owners (j - 25) 0)))))
+
+unfoldable pub orderRowOf : List ℕ → List ℕ → List ℕ
+orderRowOf places owners = words (orderWord places owners) 36 0

@@ -1,0 +1,5 @@
+-- The definitions that the contracts of the lent storage cite.
+pub mod Lists
+pub mod Storage
+pub mod Places
+pub mod Form

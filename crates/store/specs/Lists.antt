@@ -1,0 +1,14 @@
+-- Parts of a list, as the walks over lent rows see them.
+use mathlib.Core.Path.{_≡_}
+use mathlib.Core.List.{List, [], _++_}
+use Prim.Native.Nat.{ℕ, _<_}
+use lib.ListN.{length, getD, drop}
+
+module _ {A : Type 0} where
+  -- a list laid onto the front of another: what lies past it stays
+  abbrev pub onto : List A → List A → List A
+  onto k l = k ++ drop (length k) l
+
+-- each of the first n rows is the row of what it says
+abbrev pub Plain : {X : Type 0} → (List ℕ → X) → (X → List ℕ) → ℕ → List (List ℕ) → Type 0
+Plain itemOf rowOf n rows = (i : ℕ) → i < n → rowOf (itemOf (getD rows i [])) ≡ getD rows i []

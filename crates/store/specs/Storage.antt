@@ -1,0 +1,106 @@
+-- The lent storage, and the ledger that its contents say. Only the placing is ours.
+--     head     the count of groups, the count of pairs
+--     groups   a row a group, 36 words: the number; set reference, acknowledged call, broadcast, class, lifetime, temporary,
+--              each one up, 0 where absent; the name's length, 0 where absent, and 16 letters; the owners' count and 11 owners
+--     pairs    a row a pair, 4 words: group, radio, state, ticks
+-- Rows past the counts say nothing; words of a group's row past its counts are 0.
+use Prim.Native.Nat.{ℕ, zero, suc, _-_}
+use mathlib.Core.List.{List, [], _∷_, _++_, map}
+use mathlib.Core.Option.{Option, none, some}
+use lib.ListN.{getD, length, take, drop, replicate}
+use Rattle.rules.specs.Mark.{Mark}
+use Rattle.rules.specs.Ledger.{Group, Pair, Ledger}
+use Rattle.order.specs.Walks.{left}
+use Rattle.store.specs.Lists.{onto}
+use Rattle.order.specs.Row.{heldOf, lettersOf}
+
+pub record Contents : Type 0 where
+  pub head : List ℕ
+  pub groups : List (List ℕ)
+  pub pairs : List (List ℕ)
+
+abbrev pub contents : List ℕ → List (List ℕ) → List (List ℕ) → Contents
+contents head groups pairs = record { head = head; groups = groups; pairs = pairs }
+
+-- ---- a pair's row ----
+
+abbrev pub pairOf : List ℕ → Pair × Mark
+pairOf row = ((getD row 0 0, getD row 1 0), record { state = getD row 2 0; ticks = getD row 3 0 })
+
+abbrev pub pairRow : Pair × Mark → List ℕ
+pairRow e = e .0 .0 ∷ e .0 .1 ∷ e .1 .state ∷ e .1 .ticks ∷ []
+
+abbrev pub pairsOf : ℕ → List (List ℕ) → List (Pair × Mark)
+pairsOf n rows = map pairOf (take n rows)
+
+-- those from place i on
+abbrev pub pairsFrom : ℕ → ℕ → List (List ℕ) → List (Pair × Mark)
+pairsFrom i n rows = map pairOf (left i n rows)
+
+-- ---- a group's row ----
+
+abbrev pub valueOf : ℕ → Option ℕ
+valueOf zero = none
+valueOf (suc v) = some v
+
+-- a list in n places behind its length
+abbrev pub counted : ℕ → List ℕ → List ℕ
+counted n l = length l ∷ (l ++ replicate (n - length l) 0)
+
+abbrev pub nameOf : ℕ → List ℕ → Option (List ℕ)
+nameOf zero letters = none
+nameOf (suc n) letters = some (take (suc n) letters)
+
+-- the words for the letters, and those for the owners
+abbrev pub letters : List ℕ → List ℕ
+letters row = take 16 (drop 8 row)
+
+abbrev pub owners : List ℕ → List ℕ
+owners row = drop 25 row
+
+unfoldable pub groupOf : List ℕ → ℕ × Group
+groupOf row = (
+  getD row 0 0,
+  record {
+    owners = take (getD row 24 0) (owners row);
+    parameters = record {
+      setReference = valueOf (getD row 1 0);
+      acknowledgedCall = valueOf (getD row 2 0);
+      broadcast = valueOf (getD row 3 0);
+      name = nameOf (getD row 7 0) (letters row);
+      class = valueOf (getD row 4 0);
+      lifetime = valueOf (getD row 5 0);
+      temporary = valueOf (getD row 6 0);
+    };
+  },
+)
+
+unfoldable pub groupRow : ℕ × Group → List ℕ
+groupRow e = let p = e .1 .parameters in
+    e .0 ∷ heldOf (p .setReference) ∷ heldOf (p .acknowledgedCall) ∷ heldOf (p .broadcast) ∷ heldOf (p .class) ∷ heldOf (p .lifetime) ∷ heldOf (p .temporary)
+    ∷ (counted 16 (lettersOf (p .name)) ++ counted 11 (e .1 .owners))
+
+abbrev pub groupsOf : ℕ → List (List ℕ) → List (ℕ × Group)
+groupsOf n rows = map groupOf (take n rows)
+
+abbrev pub groupsFrom : ℕ → ℕ → List (List ℕ) → List (ℕ × Group)
+groupsFrom i n rows = map groupOf (left i n rows)
+
+-- ---- the ledger ----
+
+abbrev pub groupCount : Contents → ℕ
+groupCount c = getD (c .head) 0 0
+
+abbrev pub pairCount : Contents → ℕ
+pairCount c = getD (c .head) 1 0
+
+abbrev pub ledgerOf : Contents → Ledger
+ledgerOf c = record { groups = groupsOf (groupCount c) (c .groups); pairs = pairsOf (pairCount c) (c .pairs) }
+
+-- the contents with a ledger laid over them: rows past the counts stay
+abbrev pub laid : Ledger → Contents → Contents
+laid l c = record {
+  head = onto (length (l .groups) ∷ length (l .pairs) ∷ []) (c .head);
+  groups = onto (map groupRow (l .groups)) (c .groups);
+  pairs = onto (map pairRow (l .pairs)) (c .pairs);
+}
