@@ -12,7 +12,7 @@ use lib.Arith.{digits-lt}
 use lib.Dec.{eqb, ltb}
 use lib.ListN.{length, take, drop, replicate, length-append, length-take, length-drop, length-replicate, take-append-drop}
 use lib.Pow.{pow-pos, pow-mono, pow-add, shr-shr, split, high, low, field, mod-mod-pow}
-use lib.Seq.{length-take-le, take-nil, drop-nil, take-append-add, drop-append-add, take-append-seam, take-append-le, drop-append-le, take-at, drop-at}
+use lib.Seq.{length-take-le, take-nil, drop-nil, take-append-add, drop-append-add, take-append-le, drop-append-le, take-at, drop-at}
 use Rattle.bits.specs.Bits.{odd, bit, digits, value, bitsOf, bytesFor, spare, pack, bytesOf, Bytes}
 use Rattle.bits.specs.Field.{fieldAt, putAt}
 use Rattle.bits.specs.declared.Taken.the-variants.{Value, Cut}
@@ -174,10 +174,6 @@ length-bytesOf bits = length-pack (bytesFor (length bits)) (bits ++ spare (lengt
 pub bits-bytes : (bits : List Bool) → bitsOf (bytesOf bits) ≡ bits ++ spare (length bits)
 unfolding bytesOf
 bits-bytes bits = bits-pack (bytesFor (length bits)) (bits ++ spare (length bits)) (length-append bits (spare (length bits)) ∙ rw length-replicate (omega arith))
-
--- the spare bits are past its end
-pub take-bits-bytes : (bits : List Bool) → take (length bits) (bitsOf (bytesOf bits)) ≡ bits
-take-bits-bytes bits = ap (take (length bits)) (bits-bytes bits) ∙ take-append-seam bits (spare (length bits))
 
 -- a run that ends with a byte leaves no spare bits
 bytesOf-whole : (n : ℕ) (bits : List Bool) → length bits ≡ 8 * n → bytesOf bits ≡ pack n bits

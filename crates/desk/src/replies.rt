@@ -5,7 +5,7 @@ use ledger::Sent;
 use ledger::Shown;
 use refusal::Refusal;
 ghost use mathlib.Core.Path.{_≡_};
-ghost use Prim.Native.Nat.{_+_, _*_, _≤_};
+ghost use Prim.Native.Nat.{_+_, _≤_};
 ghost use lib.ListN.{length};
 ghost use Rattle.desk.specs.Room.{longest};
 

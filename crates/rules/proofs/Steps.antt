@@ -1,49 +1,28 @@
 -- What each accepted step makes of the lists, in plain lists; and the totals after a define, counted before it.
 use Prim.Native.Nat.{ℕ, _+_}
 use mathlib.Core.Path.{_≡_, _∙_, ap}
-use mathlib.Core.Bool.{cond, not, _&&_}
+use mathlib.Core.Bool.{not}
 use mathlib.Core.List.{List, map}
 use mathlib.Core.Option.{Option, none, some}
 use lib.Dec.{eqb}
 use lib.ListN.{length}
 use borrow.Author.Tests.{eqb-true}
-use Rattle.rules.specs.Lists.{keep, present, mem, sum}
-use Rattle.rules.specs.Entries.{find, puts, keepKeys, alter}
+use Rattle.rules.specs.Lists.{keep, present, sum}
+use Rattle.rules.specs.Entries.{find, puts}
 use Rattle.rules.specs.Number.{Numbers, used, key, numbers, numbersIn}
-use Rattle.rules.specs.Mark.{Mark, begun, ticked, answered}
-use Rattle.rules.specs.Order.{Define, Delete, Answer, define, delete, answer, tick, defineGroups, defineRadios, deleteGroups, leaves}
+use Rattle.rules.specs.Mark.{Mark, begun}
+use Rattle.rules.specs.Order.{Define, define, defineGroups, defineRadios}
 use Rattle.rules.specs.Effect.{effect}
 use Rattle.rules.specs.Ledger.{Group, Pair, samePair, Ledger, group, groupAfter, product, apply}
 use Rattle.rules.proofs.ListLaws.{eqb-same, Once, once-once}
 use Rattle.rules.proofs.Effects.{pair-sound, pair-itself}
-use Rattle.rules.proofs.Walks.{keep-all, alter-all, alter-out, length-puts, length-product, product-apart, putsNow, puts-now}
+use Rattle.rules.proofs.Walks.{keep-all, alter-all, length-puts, length-product, product-apart, putsNow, puts-now}
 
 -- the numbers of an order's list stand once each
 pub numbers-once : (n : Option Numbers) → Once (numbersIn n)
 unfolding numbers
 numbers-once none = tt
 numbers-once (some n) = once-once (map key (used n))
-
-pub tick-lists : (l : Ledger) → apply l (effect tick) ≡ record { groups = l .groups; pairs = alter (λ (k : Pair) m. some (ticked m)) (l .pairs) }
-tick-lists l = λ i. record { groups = keep-all (l .groups) i; pairs = alter (λ (k : Pair) m. some (ticked m)) (l .pairs) }
-
-pub answer-lists : (l : Ledger) (a : Answer) → apply l (effect (answer a)) ≡ record {
-  groups = l .groups;
-  pairs = alter (λ (k : Pair) m. cond (samePair k (a .group, a .radio)) (answered (a .result)) (some m)) (l .pairs);
-}
-answer-lists l a = λ i. record {
-  groups = keep-all (l .groups) i;
-  pairs = alter (λ (k : Pair) m. cond (samePair k (a .group, a .radio)) (answered (a .result)) (some m)) (l .pairs);
-}
-
-pub delete-lists : (l : Ledger) (o : Delete) (room : ℕ) → apply l (effect (delete o room)) ≡ record {
-  groups = keepKeys (λ g. not (o .delete && mem g (deleteGroups o))) (l .groups);
-  pairs = keepKeys (λ (k : Pair). not (mem (k .0) (deleteGroups o) && leaves o (k .1))) (l .pairs);
-}
-delete-lists l o room = λ i. record {
-  groups = keepKeys (λ g. not (o .delete && mem g (deleteGroups o))) (l .groups);
-  pairs = alter-out (λ (k : Pair). mem (k .0) (deleteGroups o) && leaves o (k .1)) (l .pairs) i;
-}
 
 -- one group after the other, each made from what stands at its turn
 pub define-lists : (l : Ledger) (o : Define) (room : ℕ) → apply l (effect (define o room)) ≡ record {

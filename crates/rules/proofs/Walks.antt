@@ -1,19 +1,19 @@
 -- The list operations one element at a time, from the left: what a walk over lent rows does at each turn.
 use Prim.Native.Nat.{ℕ, suc, _+_, _*_}
 use mathlib.Core.Path.{_≡_, refl, sym, _∙_, ap}
-use mathlib.Core.Bool.{Bool, true, false, cond, not, _&&_, _||_}
+use mathlib.Core.Bool.{Bool, true, false, cond, not, _&&_}
 use mathlib.Core.List.{List, [], _∷_, _++_, map, append-nil, append-assoc}
 use mathlib.Core.Option.{Option, none, some}
 use lib.Dec.{eqb}
 use lib.ListN.{length, length-append}
 use native.Mathlib.Nat.{suc-mul}
 use native.Mathlib.Omega.{arith}
-use Rattle.rules.specs.Lists.{any, keep, present, join, mem, once, insert, rising, sum}
+use Rattle.rules.specs.Lists.{any, keep, present, join, mem, once, sum}
 use Rattle.rules.specs.Entries.{find, put, puts, keepKeys, entry, alter}
 use Rattle.rules.specs.Ledger.{Pair, samePair, product}
 use Rattle.rules.specs.Outgoing.{orders}
-use Rattle.rules.proofs.Tests.{split, clash, or-flip, and-false}
-use Rattle.rules.proofs.ListLaws.{any-append, mem-append, mem-rising, eqb-flip, rising-rising, same-members, Apart, Once}
+use Rattle.rules.proofs.Tests.{split, clash, and-false}
+use Rattle.rules.proofs.ListLaws.{any-append, eqb-flip, Apart, Once}
 use Rattle.rules.proofs.EntryLaws.{flip-false, find-put}
 use Rattle.rules.proofs.Effects.{any-row, any-product}
 
@@ -27,9 +27,6 @@ module _ {A : Type 0} where
   pub join-append : (f : ℕ → List A) (a b : List ℕ) → join f (a ++ b) ≡ join f a ++ join f b
   join-append f [] b = refl
   join-append f (x ∷ a) b = cc (join-append f a b, append-assoc (f x) (join f a) (join f b))
-
-  pub join-snoc : (f : ℕ → List A) (l : List ℕ) (x : ℕ) → join f (l ++ (x ∷ [])) ≡ join f l ++ f x
-  join-snoc f l x = join-append f l (x ∷ []) ∙ ap (λ (k : List A). join f l ++ k) (append-nil (f x))
 
   pub length-join : (f : ℕ → List A) (l : List ℕ) → length (join f l) ≡ sum (λ x. length (f x)) l
   length-join f [] = refl
@@ -107,17 +104,6 @@ once-snoc (y ∷ l) x = split (mem x l)
     split (eqb x y)
     (λ e. cc (h, keep-append (λ z. not (eqb y z)) (once l) (x ∷ []), eqb-flip x y, append-nil (keep (λ z. not (eqb y z)) (once l))))
     (λ e. cc (h, keep-append (λ z. not (eqb y z)) (once l) (x ∷ []), eqb-flip x y)))
-
--- a rising list goes by what is in it
-pub rising-same : (a b : List ℕ) → ((z : ℕ) → mem z a ≡ mem z b) → rising a ≡ rising b
-rising-same a b h = same-members (rising a) (rising b) (rising-rising a) (rising-rising b) (λ z. mem-rising z a ∙ h z ∙ sym (mem-rising z b))
-
-pub rising-snoc : (l : List ℕ) (x : ℕ) → rising (l ++ (x ∷ [])) ≡ insert x (rising l)
-rising-snoc l x = rising-same (l ++ (x ∷ [])) (x ∷ l) (λ z. mem-append z l (x ∷ []) ∙ or-flip (mem z l) (eqb z x || false) ∙ or-last (eqb z x) (mem z l))
-  where
-    or-last : (a b : Bool) → ((a || false) || b) ≡ (a || b)
-    or-last true b = refl
-    or-last false b = refl
 
 -- ---- totals before the change: an order adds one entry for each of its keys that is not there ----
 
