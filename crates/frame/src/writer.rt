@@ -34,7 +34,7 @@ ghost use mathlib.Core.Path.{_≡_};
 ghost use mathlib.Core.List.{[], _∷_, _++_};
 ghost use Prim.Native.Nat.{_+_, _-_, _*_, _≤_, _<_};
 ghost use lib.Dec.{T};
-ghost use lib.ListN.{length, take, drop};
+ghost use lib.ListN.{length, drop};
 ghost use Rattle.frame.specs.Row.{atLeast};
 ghost use Rattle.frame.specs.Shape.{times, least, stride, identity, item, repeated, rowsOf, span, conditionsOf};
 ghost use Rattle.frame.specs.Walk.{rowFor, Narrow, sound, looks};

@@ -5,10 +5,10 @@ use mathlib.Core.List.{List, [], _∷_, _++_, map}
 use mathlib.Core.Option.{none, some}
 use Prim.Native.Nat.{ℕ, _≤_}
 use native.Mathlib.Omega.{arith}
-use lib.ListN.{length, set, take}
+use lib.ListN.{length, set}
 use Rattle.refusal.specs.declared.Refusal.{Refusal}
 use Rattle.rules.specs.Lists.{present, mem, join}
-use Rattle.rules.specs.Entries.{alter, keepKeys}
+use Rattle.rules.specs.Entries.{keepKeys}
 use Rattle.rules.specs.Mark.{Mark}
 use Rattle.rules.specs.Number as number
 use Rattle.rules.specs.Effect.{effect}
@@ -18,7 +18,7 @@ use Rattle.rules.specs.Demand.{radiosListed}
 use Rattle.rules.specs.Listing.{listedIn}
 use Rattle.rules.specs.Ledger.{Group, Pair, samePair, view, members, tally, apply, refused}
 use Rattle.rules.proofs.EntryLaws.{Single}
-use Rattle.rules.proofs.Walks.{alter-out}
+use Rattle.rules.proofs.Walks.{alter-out, keep-all}
 use Rattle.rules.proofs.Listing.{listed-members, entries-radios}
 use Rattle.rules.proofs.Written.{written-form}
 use Rattle.store.specs.Lists.{onto}
@@ -27,12 +27,11 @@ use Rattle.store.specs.Form.{Sound}
 use Rattle.ledger.specs.Turns.{turnOf}
 use Rattle.order.specs.Lists.{numbersOf, listOf}
 use Rattle.ledger.specs.Orders.{replyOf, verdict}
-use Rattle.ledger.specs.Sending.{leavingOrders, remaining}
-use Rattle.ledger.specs.Deletes.{deleteOf, formTests, standTests, deleteTurn, goneOf}
+use Rattle.ledger.specs.Sending.{leavingOrders}
+use Rattle.ledger.specs.Deletes.{deleteOf, formTests, standTests, deleteTurn, groupsLeft, pairsLeft}
 use Rattle.order.specs.declared.Itsi.{Itsi}
 use Rattle.order.specs.declared.Numbers.{Numbers}
 use Rattle.order.specs.declared.Listed.{Listed}
-use Rattle.ledger.specs.declared.Turn.{Turn}
 use Rattle.ledger.specs.declared.Reply.the-variants.{Done, Refused}
 use Rattle.store.proofs.Form.{law-form}
 use Rattle.ledger.proofs.Listing.{first-none, first-some, reply-none, reply-some}
@@ -91,45 +90,34 @@ module _ (remove deassign : Bool) (h : (not remove && not deassign) ≡ false) (
       go false false d e = absurd (true≢false e)
 
 -- the groups: those named go where the delete says so
-pub deleted-groups : (remove : Bool) (gs keys : List ℕ) (n : ℕ) (l : List (ℕ × Group)) → take n keys ≡ gs → remaining (take (goneOf remove n) keys) l ≡ keepKeys (λ g. not (remove && mem g gs)) l
-deleted-groups true gs keys n l e = rw e (alter-out (λ g. mem g gs) l)
-deleted-groups false gs keys n l e = alter-out (λ g. false) l
+deleted-groups : (remove : Bool) (groups : Numbers) (l : List (ℕ × Group)) → groupsLeft groups remove l ≡ keepKeys (λ g. not (remove && mem g (number.numbers (numbersOf groups)))) l
+deleted-groups true groups l = alter-out (λ g. mem g (number.numbers (numbersOf groups))) l
+deleted-groups false groups l = sym (keep-all l)
 
 pub set-both : (head : List ℕ) (n m : ℕ) → 2 ≤ length head → set (set head 0 n) 1 m ≡ onto (n ∷ m ∷ []) head
 set-both [] n m h = absurd (omega arith)
 set-both (a ∷ []) n m h = absurd (omega arith)
 set-both (a ∷ b ∷ l) n m h = refl
 
-module _ (c : Contents) (w : Sound c) (asker : Itsi) (groups : Numbers) (remove deassign : Bool) (radios : Listed) (room : ℕ) (h : (not remove && not deassign) ≡ false) where
-  pub deleted-laid : (gkeys rkeys : List ℕ) (gn rn gone n m : ℕ) (turn : Turn) (grows prows : List (List ℕ))
-      → take gn gkeys ≡ number.numbers (numbersOf groups) → take rn rkeys ≡ number.numbersIn (listOf radios) → gone ≡ goneOf remove gn → turn ≡ deleteTurn remove (radios .given)
-      → n ≡ length (remaining (take gone gkeys) (ledgerOf c .groups)) → grows ≡ onto (map groupRow (remaining (take gone gkeys) (ledgerOf c .groups))) (c .groups)
-      → m ≡ length (alter (turnOf turn (take gn gkeys) (take rn rkeys)) (ledgerOf c .pairs)) → prows ≡ onto (map pairRow (alter (turnOf turn (take gn gkeys) (take rn rkeys)) (ledgerOf c .pairs))) (c .pairs)
-      → contents (set (set (c .head) 0 n) 1 m) grows prows ≡ laid (apply (ledgerOf c) (effect (deleteOf asker groups remove deassign radios room))) c
-  deleted-laid gkeys rkeys gn rn gone n m turn grows prows ge re gq tq ne gre me pre =
-      let gs = number.numbers (numbersOf groups) in
-      let rs = number.numbersIn (listOf radios) in
-      let l′ = apply (ledgerOf c) (effect (deleteOf asker groups remove deassign radios room)) in
-      let g : remaining (take gone gkeys) (ledgerOf c .groups) ≡ l′ .groups =
-      ap (λ (z : ℕ). remaining (take z gkeys) (ledgerOf c .groups)) gq ∙ deleted-groups remove gs gkeys gn (ledgerOf c .groups) ge in
-      let p : alter (turnOf turn (take gn gkeys) (take rn rkeys)) (ledgerOf c .pairs) ≡ l′ .pairs =
-      ap (λ (z : Turn). alter (turnOf z (take gn gkeys) (take rn rkeys)) (ledgerOf c .pairs)) tq
-      ∙ rw (ge, re) (alter-same _ _ (λ k x. deleted-turn remove deassign h x gs rs (radios .given) k ∙ rw (given-present (radios .given) (numbersOf (radios .numbers)))) (ledgerOf c .pairs)) in
-      let e = ne ∙ ap length g in
-      let d = me ∙ ap length p in
-      let gl = gre ∙ ap (λ (z : List (ℕ × Group)). onto (map groupRow z) (c .groups)) g in
-      let pl = pre ∙ ap (λ (z : List (Pair × Mark)). onto (map pairRow z) (c .pairs)) p in
-      let hd : set (set (c .head) 0 n) 1 m ≡ onto (length (l′ .groups) ∷ length (l′ .pairs) ∷ []) (c .head) =
-      set-both (c .head) n m (w .head) ∙ (λ i. onto (e i ∷ d i ∷ []) (c .head)) in
-      λ i. contents (hd i) (gl i) (pl i)
+pub deleted-laid : (c : Contents) → Sound c → (asker : Itsi) (groups : Numbers) (remove deassign : Bool) (radios : Listed) (room : ℕ) → (not remove && not deassign) ≡ false → (n m : ℕ) (grows prows : List (List ℕ))
+    → n ≡ length (groupsLeft groups remove (ledgerOf c .groups)) → grows ≡ onto (map groupRow (groupsLeft groups remove (ledgerOf c .groups))) (c .groups)
+    → m ≡ length (pairsLeft groups remove radios (ledgerOf c .pairs)) → prows ≡ onto (map pairRow (pairsLeft groups remove radios (ledgerOf c .pairs))) (c .pairs)
+    → contents (set (set (c .head) 0 n) 1 m) grows prows ≡ laid (apply (ledgerOf c) (effect (deleteOf asker groups remove deassign radios room))) c
+deleted-laid c w asker groups remove deassign radios room h n m grows prows ne gre me pre =
+    let l′ = apply (ledgerOf c) (effect (deleteOf asker groups remove deassign radios room)) in
+    let g : groupsLeft groups remove (ledgerOf c .groups) ≡ l′ .groups = deleted-groups remove groups (ledgerOf c .groups) in
+    let p : pairsLeft groups remove radios (ledgerOf c .pairs) ≡ l′ .pairs =
+    alter-same _ _ (λ k x. deleted-turn remove deassign h x (number.numbers (numbersOf groups)) (number.numbersIn (listOf radios)) (radios .given) k ∙ rw (given-present (radios .given) (numbersOf (radios .numbers)))) (ledgerOf c .pairs) in
+    let e = ne ∙ ap length g in
+    let d = me ∙ ap length p in
+    let gl = gre ∙ ap (λ (z : List (ℕ × Group)). onto (map groupRow z) (c .groups)) g in
+    let pl = pre ∙ ap (λ (z : List (Pair × Mark)). onto (map pairRow z) (c .pairs)) p in
+    let hd : set (set (c .head) 0 n) 1 m ≡ onto (length (l′ .groups) ∷ length (l′ .pairs) ∷ []) (c .head) =
+    set-both (c .head) n m (w .head) ∙ (λ i. onto (e i ∷ d i ∷ []) (c .head)) in
+    λ i. contents (hd i) (gl i) (pl i)
 
 -- a delete that is taken has something to do, and room for its orders
 pub delete-passed : (c : Contents) → Sound c → (asker : Itsi) (groups : Numbers) (remove deassign : Bool) (radios : Listed) (room : ℕ) → refused (ledgerOf c) (deleteOf asker groups remove deassign radios room) ≡ none → ((not remove && not deassign) ≡ false) × (length (leavingOrders deassign (radios .given) (number.numbersIn (listOf radios)) (ledgerOf c .pairs) (number.numbers (numbersOf groups))) ≤ room)
 delete-passed c w asker groups remove deassign radios room e =
     let l = tests (view (ledgerOf c)) (tally (ledgerOf c) (effect (deleteOf asker groups remove deassign radios room))) (deleteOf asker groups remove deassign radios room) in
     (tests-pass l e 4, rw (← delete-sends c w asker groups remove deassign radios room) (ltb-false room _ (tests-pass l e 5)))
-
--- no more groups go than are named
-pub gone-few : (remove : Bool) (n : ℕ) → goneOf remove n ≤ n
-gone-few true n = omega arith
-gone-few false n = omega arith

@@ -7,14 +7,16 @@ use lib.ListN.{length}
 use Rattle.refusal.specs.declared.Refusal.{Refusal}
 use Rattle.refusal.specs.declared.Refusal.the-variants.{BadOrder, FormNotTaken, NoSuchGroup, NotOwner, NothingToDo, NoRoom}
 use Rattle.rules.specs.Lists.{any}
-use Rattle.rules.specs.Entries.{find}
+use Rattle.rules.specs.Entries.{find, alter}
 use Rattle.rules.specs.Mark.{Mark}
-use Rattle.rules.specs.Number.{wide, badList, untaken}
+use Rattle.rules.specs.Number.{wide, badList, untaken, numbers, numbersIn}
 use Rattle.rules.specs.Order.{Step, delete}
+use Rattle.rules.specs.Outgoing.{Outgoing}
 use Rattle.rules.specs.Ledger.{Group, Pair}
 use Rattle.order.specs.Lists.{numbersOf, listOf}
 use Rattle.ledger.specs.Named.{groupFault}
-use Rattle.ledger.specs.Sending.{leavingOrders}
+use Rattle.ledger.specs.Sending.{leavingOrders, remaining}
+use Rattle.ledger.specs.Turns.{turnOf}
 use Rattle.order.specs.declared.Itsi.{Itsi}
 use Rattle.order.specs.declared.Numbers.{Numbers}
 use Rattle.order.specs.declared.Listed.{Listed}
@@ -46,6 +48,13 @@ standTests groups pairs asker named remove deassign listed radios room =
 abbrev pub deleteTurn : Bool → Bool → Turn
 deleteTurn remove listed = cond (not remove && listed) Leave LeaveAll
 
--- how many of the named groups go
-abbrev pub goneOf : Bool → ℕ → ℕ
-goneOf remove n = cond remove n 0
+-- ---- what goes out, and what a delete leaves ----
+
+abbrev pub ordersLeaving : Numbers → Bool → Listed → List (Pair × Mark) → List Outgoing
+ordersLeaving groups deassign radios pairs = leavingOrders deassign (radios .given) (numbersIn (listOf radios)) pairs (numbers (numbersOf groups))
+
+abbrev pub groupsLeft : Numbers → Bool → List (ℕ × Group) → List (ℕ × Group)
+groupsLeft groups remove l = cond remove (remaining (numbers (numbersOf groups)) l) l
+
+abbrev pub pairsLeft : Numbers → Bool → Listed → List (Pair × Mark) → List (Pair × Mark)
+pairsLeft groups remove radios l = alter (turnOf (deleteTurn remove (radios .given)) (numbers (numbersOf groups)) (numbersIn (listOf radios))) l

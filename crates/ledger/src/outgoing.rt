@@ -3,6 +3,8 @@ use crate::gathering::copy_firsts;
 use crate::gathering::list_members;
 use order::Gtsi;
 use order::Itsi;
+use order::Listed;
+use order::Numbers;
 use order::group_list;
 use order::keys_in;
 use order::radio_list;
@@ -15,6 +17,7 @@ ghost use mathlib.Core.List.{map};
 ghost use mathlib.Core.Path.{_≡_};
 ghost use Rattle.rules.specs.Outgoing.{orders};
 ghost use Rattle.ledger.specs.Defines.{assignOrders, ordersSent};
+ghost use Rattle.ledger.specs.Deletes.{ordersLeaving};
 ghost use Rattle.store.specs.Lists.{onto};
 ghost use Rattle.ledger.specs.Sending.{orderRow, among, everyone, leaving, leavingOrders};
 ghost use Rattle.store.specs.Storage.{pairsOf};
@@ -119,7 +122,7 @@ pub fn count_orders(
 }
 
 // The orders of a delete, in the lent room; their number is returned.
-pub fn send_orders(
+fn send_orders(
     pairs: &[[u64; 4]],
     count: usize,
     named: &[u64],
@@ -171,4 +174,36 @@ pub fn define_orders(place: [u32; 166], out: &mut [[u64; 3]]) -> usize
     let radio_key = radio_keys.key;
     assign_orders(&named_key[..named_count], &radio_key[..radio_count], out);
     named_count * radio_count
+}
+
+// The orders of a delete, in the lent room; their number is returned.
+pub fn delete_orders(
+    pairs: &[[u64; 4]],
+    count: usize,
+    named: Numbers,
+    deassign: bool,
+    radios: Listed,
+    out: &mut [[u64; 3]],
+) -> usize
+    requires { ⌜ (count ≤ length (now pairs)) × (count ≤ 2048) × (length (ordersLeaving named deassign radios (pairsOf count (now pairs))) ≤ length (now out)) ⌝ }
+    ensures { λ r. ⌜ (r ≡ length (ordersLeaving named deassign radios (pairsOf count (now (pairs .entry))))) × (now (out .exit) ≡ onto (map orderRow (ordersLeaving named deassign radios (pairsOf count (now (pairs .entry))))) (now (out .entry))) ⌝ }
+{
+    let named_keys = keys_in(Listed {
+        given: true,
+        numbers: named,
+    });
+    let named_count = named_keys.count;
+    let named_key = named_keys.key;
+    let radio_keys = keys_in(radios);
+    let radio_count = radio_keys.count;
+    let radio_key = radio_keys.key;
+    send_orders(
+        pairs,
+        count,
+        &named_key[..named_count],
+        deassign,
+        radios.given,
+        &radio_key[..radio_count],
+        out,
+    )
 }

@@ -1,5 +1,8 @@
 // Turning the pairs: each is changed in its place or taken out, and those that stay close up.
 use crate::Turn;
+use order::Listed;
+use order::Numbers;
+use order::keys_in;
 use order::member;
 ghost use Prim.Native.Nat.{_≤_};
 ghost use lib.ListN.{length, getD};
@@ -9,7 +12,7 @@ ghost use mathlib.Core.Path.{_≡_};
 ghost use Rattle.rules.specs.Entries.{alter};
 ghost use Rattle.rules.specs.Lists.{mem};
 ghost use Rattle.rules.specs.Mark.{ticked};
-ghost use Rattle.ledger.specs.Deletes.{deleteTurn};
+ghost use Rattle.ledger.specs.Deletes.{deleteTurn, pairsLeft};
 ghost use Rattle.store.specs.Lists.{onto};
 ghost use Rattle.store.specs.Storage.{pairOf, pairRow, pairsOf};
 ghost use Rattle.ledger.specs.Turns.{staysOf, markOf, turnOf, answerTurn};
@@ -95,7 +98,7 @@ pub fn answer_turn(result: u64) -> Turn
     Turn::Leave
 }
 
-pub fn delete_turn(remove: bool, listed: bool) -> Turn
+fn delete_turn(remove: bool, listed: bool) -> Turn
     ensures { λ r. ⌜ r ≡ deleteTurn remove listed ⌝ }
 {
     let some = !remove & listed;
@@ -103,4 +106,34 @@ pub fn delete_turn(remove: bool, listed: bool) -> Turn
         return Turn::Leave;
     }
     Turn::LeaveAll
+}
+
+// The pairs that a delete leaves; their count is returned.
+pub fn delete_pairs(
+    pairs: &mut [[u64; 4]],
+    count: usize,
+    named: Numbers,
+    remove: bool,
+    radios: Listed,
+) -> usize
+    requires { ⌜ count ≤ length (now pairs) ⌝ }
+    ensures { λ r. ⌜ (r ≡ length (pairsLeft named remove radios (pairsOf count (now (pairs .entry))))) × (now (pairs .exit) ≡ onto (map pairRow (pairsLeft named remove radios (pairsOf count (now (pairs .entry))))) (now (pairs .entry))) ⌝ }
+{
+    let named_keys = keys_in(Listed {
+        given: true,
+        numbers: named,
+    });
+    let named_count = named_keys.count;
+    let named_key = named_keys.key;
+    let radio_keys = keys_in(radios);
+    let radio_count = radio_keys.count;
+    let radio_key = radio_keys.key;
+    let turn = delete_turn(remove, radios.given);
+    turn_pairs(
+        pairs,
+        count,
+        turn,
+        &named_key[..named_count],
+        &radio_key[..radio_count],
+    )
 }

@@ -1,6 +1,8 @@
 // Groups and pairs made, changed and taken out.
 use order::Gtsi;
 use order::Itsi;
+use order::Listed;
+use order::Numbers;
 use order::first_state;
 use order::group_list;
 use order::keys_in;
@@ -20,13 +22,13 @@ ghost use mathlib.Core.Path.{_≡_};
 ghost use Rattle.rules.specs.Parameters.{badName};
 ghost use Rattle.rules.specs.Recorded.{optionalName};
 ghost use Rattle.ledger.specs.Defines.{setPair, setRadios, setAll, keepsWord, madeWord, madeRow, makeGroup, makeGroups, Fine, FineGroups, groupsMade, pairsSet};
-ghost use Rattle.ledger.specs.Deletes.{goneOf};
+ghost use Rattle.ledger.specs.Deletes.{groupsLeft};
 ghost use Rattle.store.specs.Lists.{onto, Plain};
 ghost use Rattle.ledger.specs.Sending.{remaining};
 ghost use Rattle.store.specs.Storage.{pairOf, pairRow, pairsOf, groupOf, groupRow, groupsOf};
 
 // The groups that go are taken out, the others close up in their order; their count is returned.
-pub fn remove_groups(groups: &mut [[u64; 36]], count: usize, gone: &[u64]) -> usize
+fn remove_groups(groups: &mut [[u64; 36]], count: usize, gone: &[u64]) -> usize
     requires { ⌜ (count ≤ length (now groups)) × Plain groupOf groupRow count (now groups) ⌝ }
     ensures { λ r. ⌜ (r ≡ length (remaining (now (gone .entry)) (groupsOf count (now (groups .entry))))) × (now (groups .exit) ≡ onto (map groupRow (remaining (now (gone .entry)) (groupsOf count (now (groups .entry))))) (now (groups .entry))) ⌝ }
 {
@@ -43,13 +45,21 @@ pub fn remove_groups(groups: &mut [[u64; 36]], count: usize, gone: &[u64]) -> us
     kept
 }
 
-pub fn gone_count(remove: bool, count: usize) -> usize
-    ensures { λ r. ⌜ r ≡ goneOf remove count ⌝ }
+// The groups that a delete leaves; their count is returned.
+pub fn delete_groups(groups: &mut [[u64; 36]], count: usize, named: Numbers, remove: bool) -> usize
+    requires { ⌜ (count ≤ length (now groups)) × Plain groupOf groupRow count (now groups) ⌝ }
+    ensures { λ r. ⌜ (r ≡ length (groupsLeft named remove (groupsOf count (now (groups .entry))))) × (now (groups .exit) ≡ onto (map groupRow (groupsLeft named remove (groupsOf count (now (groups .entry))))) (now (groups .entry))) ⌝ }
 {
-    if remove {
+    if !remove {
         return count;
     }
-    0
+    let named_keys = keys_in(Listed {
+        given: true,
+        numbers: named,
+    });
+    let named_count = named_keys.count;
+    let named_key = named_keys.key;
+    remove_groups(groups, count, &named_key[..named_count])
 }
 
 // A pair is set, in its place or behind the others; the new count is returned.
