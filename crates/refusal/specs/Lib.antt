@@ -1,2 +1,3 @@
--- The definitions that the contracts of `refusal` cite.
+-- The definitions that the contracts of `refusal` cite, and what any answer says.
 pub mod Number
+pub mod Says
