@@ -1,4 +1,5 @@
--- What the contracts of `bits` cite.
+-- What the contracts of `bits` cite, and what taking a field says.
 pub mod Bits
 pub mod Field
+pub mod Says
 pub mod Window
