@@ -1,4 +1,5 @@
 -- The laws of bits and fields, and those of the whole bytes that a field lies in; what taking a field says.
+pub mod Held
 pub mod Laws
 pub mod Says
 pub mod Windows

@@ -1,4 +1,4 @@
--- What `take` and `field_from` answer, in document 01's terms.
+-- What `take`, `field_from` and `first_two` answer of each field, in document 01's terms.
 -- Assumes nothing.
 use mathlib.Core.Path.{_≡_, refl}
 use Prim.Native.Nat.{ℕ, _+_, _*_}
@@ -11,7 +11,7 @@ use Rattle.bits.specs.Field.{fieldAt}
 use Rattle.bits.specs.Says.{takenSays}
 use Rattle.bits.specs.declared.Taken.{Taken}
 use Rattle.refusal.specs.declared.Refusal.the-variants.{EndsInside}
-use Rattle.refusal.specs.Says.{Says, accepted, refusedWith}
+use Rattle.refusal.specs.Says.{accepted, refusedWith}
 
 -- what either of two answers says
 says-either : (t : Bool) (a b : Taken) → takenSays (cond t a b) ≡ cond t (takenSays a) (takenSays b)

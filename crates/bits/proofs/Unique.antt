@@ -22,12 +22,18 @@ use Rattle.bits.proofs.moved as moved
 use Rattle.bits.proofs.take as take
 use Rattle.bits.proofs.field_from.Kinds as field-from-kinds
 use Rattle.bits.proofs.field_from.Reads as field-from
+use Rattle.bits.proofs.first_two.Kinds as first-two-kinds
+use Rattle.bits.proofs.first_two.Reads as first-two
 use Rattle.bits.proofs.put_field.Kinds as put-kinds
 use Rattle.bits.proofs.put_field.Reads as put-field
 
 module _ (κs : Lfts 1) (a : Dens κs field-from-kinds.ps) (r r′ : resT field-from-kinds.r κs .Denot) (s s′ : AtExit (endedOf 1 field-from-kinds.ps field-from-kinds.r) κs) where
   pub field-from-unique : field-from.Post κs a r s → field-from.Post κs a r′ s′ → r ≡ r′
   field-from-unique p q = p ∙ sym q
+
+module _ (κs : Lfts 1) (a : Dens κs first-two-kinds.ps) (r r′ : resT first-two-kinds.r κs .Denot) (s s′ : AtExit (endedOf 1 first-two-kinds.ps first-two-kinds.r) κs) where
+  pub first-two-unique : first-two.Post κs a r s → first-two.Post κs a r′ s′ → r ≡ r′
+  first-two-unique p q = p ∙ sym q
 
 module _ (κs : Lfts 1) (a : Dens κs put-kinds.ps) (r r′ : resT put-kinds.r κs .Denot) (s s′ : AtExit (endedOf 1 put-kinds.ps put-kinds.r) κs) where
   pub put-field-unique : put-field.Post κs a r s → put-field.Post κs a r′ s′ → now (s .0) ≡ now (s′ .0)

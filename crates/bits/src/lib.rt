@@ -3,7 +3,7 @@
 ghost use mathlib.Core.Path.{_≡_};
 ghost use Prim.Native.Nat.{_+_, _*_, _%_, _^_, _≤_, _<_};
 ghost use lib.ListN.{length};
-ghost use Rattle.bits.specs.Field.{fieldAt, putAt};
+ghost use Rattle.bits.specs.Field.{fieldAt, firstTwo, putAt};
 ghost use Rattle.bits.specs.Window.{valueAt, bytesAt, joinedBits, laid};
 
 // What taking a field finds: its number, or that the bits end inside it (or it is wider than 32 bits).
@@ -130,6 +130,25 @@ pub fn field_from(frame: &[u8], bits: usize, at: usize, width: usize) -> Taken
     ensures { λ r. ⌜ r ≡ fieldAt (now (frame .entry)) bits at width ⌝ }
 {
     take(moved(new(frame, bits), at), width)
+}
+
+// Two fields, one behind the other.
+pub struct Two {
+    pub first: Taken,
+    pub second: Taken,
+}
+
+// The two fields at the first bits of a frame, through one reader, which is taken from, moved and taken from again.
+pub fn first_two(frame: &[u8], bits: usize, first: usize, second: usize) -> Two
+    ensures { λ r. ⌜ r ≡ firstTwo (now (frame .entry)) bits first second ⌝ }
+{
+    let reader = new(frame, bits);
+    let one = take(reader, first);
+    let two = take(moved(reader, first), second);
+    Two {
+        first: one,
+        second: two,
+    }
 }
 
 // `high`, and the lowest `n` bits of `x` after it, as one number.
