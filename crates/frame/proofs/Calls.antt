@@ -10,14 +10,14 @@ use denote.Ref.{RefT, now}
 use denote.Triple.Clauses.{AtExit}
 use lib.ListN.{length, take, drop}
 use Rattle.bits.specs.Bits.{bitsOf, bytesFor, bytesOf}
-use Rattle.frame.specs.declared.Kind.{Kind}
-use Rattle.frame.specs.declared.Record.{Record}
-use Rattle.frame.specs.declared.Reading.{Reading}
-use Rattle.frame.specs.declared.Verdict.the-variants.{Frame}
-use Rattle.frame.specs.declared.Written.{Written}
-use Rattle.frame.specs.declared.Written.the-variants.{Bits}
-use Rattle.frame.specs.Frame.{readingOf, clean}
-use Rattle.frame.proofs.Frames.{accepted, write-then-read, MadeAgain, read-then-write}
+use Rattle.layout.specs.declared.Kind.{Kind}
+use Rattle.layout.specs.declared.Record.{Record}
+use Rattle.layout.specs.declared.Reading.{Reading}
+use Rattle.layout.specs.declared.Verdict.the-variants.{Frame}
+use Rattle.layout.specs.declared.Written.{Written}
+use Rattle.layout.specs.declared.Written.the-variants.{Bits}
+use Rattle.layout.specs.Frame.{readingOf, clean}
+use Rattle.layout.proofs.Frames.{accepted, write-then-read, MadeAgain, read-then-write}
 use Rattle.frame.proofs.read.Kinds as read-kinds
 use Rattle.frame.proofs.read.Reads as read
 use Rattle.frame.proofs.write.Kinds as write-kinds

@@ -1,0 +1,7 @@
+-- What a frame is: its rows, the tables, reading and writing, and what the reader and the writer answer.
+pub mod Row
+pub mod Shape
+pub mod Table
+pub mod Read
+pub mod Write
+pub mod Frame

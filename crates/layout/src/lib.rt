@@ -1,0 +1,131 @@
+// What the frames of SS-DGNA are laid out by: the words of the tables, a frame's record, and what the reader and the writer answer.
+// There is no code here: the definitions are in specs/, and what is proved of them alone in proofs/.
+use refusal::Refusal;
+
+// The places of a record of any kind: as many as table 19 has rows.
+pub const PLACES: usize = 166;
+
+pub enum Kind {
+    Define,
+    DefineAck,
+    Cancel,
+    CancelAck,
+}
+
+// When an element is there: a chain of conditions, outermost first. The last is that a place holds a value; those before it that a place holds 1.
+pub enum When {
+    Always,
+    Is(u8, u8),
+    Both(u8, u8, u8),
+    All(u8, u8, u8, u8),
+}
+
+// What a list is of.
+pub enum Items {
+    Numbers,
+    Letters,
+}
+
+// What an element is made of.
+pub enum Shape {
+    // A plain number of so many bits.
+    Number(u8),
+    // So many bits, of which so many codes have a meaning; the record holds 1 for code 0.
+    Choice(u8, u8),
+    Identity,
+    // A count, and as many items.
+    List(Items),
+    // The M-bit: 1 would begin a type 3 element, refusal 7.
+    Ending,
+    // Refusal 5, where this place holds No.
+    Missing(u8),
+    // Refusal 6, where nothing came since the O-bit at this place.
+    Nothing(u8),
+}
+
+// One line of a table.
+pub struct Element(pub When, pub Shape);
+
+// A frame's values, one place a row of its table, after SS-Type and action type; 0 where the row is not there.
+pub struct Record {
+    pub place: [u32; PLACES],
+}
+
+pub enum Verdict {
+    Frame,
+    Refused(Refusal),
+}
+
+// What the reader makes of bits. On a refusal every place is 0.
+pub struct Reading {
+    pub verdict: Verdict,
+    pub values: Record,
+}
+
+// Whether a record has a code.
+pub enum Judged {
+    Writable,
+    Refused(Refusal),
+}
+
+// How many bits were written.
+pub enum Written {
+    Bits(usize),
+    Refused(Refusal),
+}
+
+// The places of a DEFINE record (table 19). `_given` is the place of an optional element's P-bit.
+pub struct DefinePlaces {
+    pub call_related: usize,
+    pub call_identifier: usize,
+    pub given: usize,
+    pub groups: usize,
+    pub o_bit: usize,
+    pub set_reference_given: usize,
+    pub set_reference: usize,
+    pub owners_included_given: usize,
+    pub owners_included: usize,
+    pub owners: usize,
+    pub acknowledged_call_given: usize,
+    pub acknowledged_call: usize,
+    pub broadcast_given: usize,
+    pub broadcast: usize,
+    pub name_given: usize,
+    pub name: usize,
+    pub assignment_given: usize,
+    pub assignment: usize,
+    pub radios: usize,
+    pub acknowledgement_given: usize,
+    pub acknowledgement: usize,
+    pub class_given: usize,
+    pub class: usize,
+    pub lifetime_given: usize,
+    pub lifetime: usize,
+    pub temporary_given: usize,
+    pub temporary: usize,
+}
+
+// Those of a DEFINE-ACK record (table 20).
+pub struct DefineAckPlaces {
+    pub call_related: usize,
+    pub call_identifier: usize,
+    pub groups: usize,
+    pub result: usize,
+    pub o_bit: usize,
+}
+
+// Those of a CANCEL record (table 33).
+pub struct CancelPlaces {
+    pub call_related: usize,
+    pub call_identifier: usize,
+    pub defined_group: usize,
+    pub existing_group: usize,
+}
+
+// Those of a CANCEL-ACK record (table 34).
+pub struct CancelAckPlaces {
+    pub call_related: usize,
+    pub call_identifier: usize,
+    pub defined_group: usize,
+    pub result: usize,
+}

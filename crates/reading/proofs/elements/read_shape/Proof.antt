@@ -1,0 +1,198 @@
+-- `reading::elements::read_shape` meets its contract, shape by shape.
+-- Assumes nothing.
+use mathlib.Core.Path.{refl, ap}
+use native.Mathlib.Omega.{arith}
+use Rattle.layout.specs.Shape.{span}
+use Rattle.reading.specs.Reads.{whole}
+use Rattle.reading.proofs.ReadLaws.{reading}
+use Rattle.table.proofs.ShapeLaws.{sound-number, sound-choice, sound-missing, list-room, shape-number, shape-choice, shape-ending, shape-identity, shape-list, shape-missing, shape-nothing, span-some}
+use borrow.Author.Needs.{needs}
+use Rattle.reading.proofs.elements.read_shape.Statement.{statement}
+use Rattle.reading.proofs.elements.read_shape.Tie as tie
+
+enum-known-shape : tie.Need-enum-known-shape
+enum-known-shape c = search needs
+
+wide-requires : tie.Need-wide-requires
+wide-requires c κs = search needs
+
+number-requires : tie.Need-number-requires
+number-requires c κs =
+    let s = c .before .before .before .before .before .before .before in
+    let f = sound-number (s .args .shape) (s .args .place) _ (c .before .before .before .shape .given .1) (s .pre .3) in
+    (omega (arith, c .wide .ensures), omega (arith, c .wide .ensures))
+
+read-field-requires : tie.Need-read-field-requires
+read-field-requires c κs =
+    let s = c .before .before .before .before .before .before .before .before in
+    (s .pre .0, omega (arith, span-some (s .args .shape)), c .number .ensures .1)
+
+enum-known-shape-2 : tie.Need-enum-known-shape-2
+enum-known-shape-2 c = search needs
+
+wide-requires-2 : tie.Need-wide-requires-2
+wide-requires-2 c κs = search needs
+
+choice-requires : tie.Need-choice-requires
+choice-requires c κs =
+    let s = c .before .before .before .before .before .before .before in
+    let f = sound-choice (s .args .shape) (s .args .place) _ _ (c .before .before .before .shape2 .given .1) (s .pre .3) in
+    (omega (arith, c .wide2 .ensures), omega (arith, c .wide2 .ensures))
+
+read-field-requires-2 : tie.Need-read-field-requires-2
+read-field-requires-2 c κs =
+    let s = c .before .before .before .before .before .before .before .before in
+    (s .pre .0, omega (arith, span-some (s .args .shape)), c .choice .ensures .1)
+
+enum-told : tie.Need-enum-told
+enum-told c = search needs
+
+read-identity-requires : tie.Need-read-identity-requires
+unfolding span
+read-identity-requires c κs =
+    let s = c .before .before .before .before .before in
+    (s .pre .0, omega (arith, ap span (c .before .enum-told .given .1)), s .pre .2)
+
+enum-known-shape-3 : tie.Need-enum-known-shape-3
+enum-known-shape-3 c = search needs
+
+read-list-requires : tie.Need-read-list-requires
+read-list-requires c κs =
+    let s = c .before .before .before .before .before .before in
+    (s .pre .0, omega (arith, list-room (s .args .shape) _ (c .before .before .shape3 .given .1)), s .pre .2)
+
+enum-told-2 : tie.Need-enum-told-2
+enum-told-2 c = search needs
+
+read-field-requires-3 : tie.Need-read-field-requires-3
+read-field-requires-3 c κs =
+    let s = c .before .before .before .before .before in
+    (s .pre .0, omega (arith, span-some (s .args .shape)), record { some = omega arith; few = omega arith; low = omega arith; plain = refl })
+
+enum-known-shape-4 : tie.Need-enum-known-shape-4
+enum-known-shape-4 c = search needs
+
+wide-requires-3 : tie.Need-wide-requires-3
+wide-requires-3 c κs = search needs
+
+mul-barred : tie.Need-mul-barred
+mul-barred c = search needs
+
+slice-read-barred : tie.Need-slice-read-barred
+slice-read-barred c =
+    let s = c .before .before .before .before .before .before .before in
+    let before = sound-missing (s .args .shape) (s .args .place) _ (c .before .before .before .shape4 .given .1) (s .pre .3) in
+    omega (arith, c .before .wide3 .ensures)
+
+barred-requires : tie.Need-barred-requires
+barred-requires c κs = search needs
+
+enum-known-shape-5 : tie.Need-enum-known-shape-5
+enum-known-shape-5 c = search needs
+
+wide-requires-4 : tie.Need-wide-requires-4
+wide-requires-4 c κs = search needs
+
+add-nothing-between : tie.Need-add-nothing-between
+add-nothing-between c = search needs
+
+nothing-between-requires : tie.Need-nothing-between-requires
+nothing-between-requires c κs = search needs
+
+barred-requires-2 : tie.Need-barred-requires-2
+barred-requires-2 c κs = search needs
+
+same-length : tie.Need-same-length
+same-length c = search needs
+
+returns : tie.Need-returns
+returns c =
+    let s = c .before .before .before .before .before .before .before .before .before .before .before in
+    shape-number (reading (whole (s .args .frame .now) (s .args .bits))) (s .args .shape) (s .args .at) (s .args .place) (s .args .values .now) _ _ _ _ _ (c .before .before .before .before .before .before .before .shape .given .1) (c .before .before .before .before .wide .ensures) (c .before .before .before .number .ensures .0) (c .before .before .read-field .ensures)
+
+same-length-2 : tie.Need-same-length-2
+same-length-2 c = search needs
+
+returns-2 : tie.Need-returns-2
+returns-2 c =
+    let s = c .before .before .before .before .before .before .before .before .before .before .before in
+    shape-choice (reading (whole (s .args .frame .now) (s .args .bits))) (s .args .shape) (s .args .at) (s .args .place) (s .args .values .now) _ _ _ _ _ _ (c .before .before .before .before .before .before .before .shape2 .given .1) (c .before .before .before .before .wide2 .ensures) (c .before .before .before .choice .ensures .0) (c .before .before .read-field2 .ensures)
+
+same-length-3 : tie.Need-same-length-3
+same-length-3 c = search needs
+
+returns-3 : tie.Need-returns-3
+returns-3 c =
+    let s = c .before .before .before .before .before .before .before .before in
+    shape-identity (reading (whole (s .args .frame .now) (s .args .bits))) (s .args .shape) (s .args .at) (s .args .place) (s .args .values .now) _ _ (c .before .before .before .before .enum-told .given .1) (c .before .before .read-identity .ensures)
+
+same-length-4 : tie.Need-same-length-4
+same-length-4 c = search needs
+
+returns-4 : tie.Need-returns-4
+returns-4 c =
+    let s = c .before .before .before .before .before .before .before .before .before in
+    shape-list (reading (whole (s .args .frame .now) (s .args .bits))) (s .args .shape) (s .args .at) (s .args .place) (s .args .values .now) _ _ _ (c .before .before .before .before .before .shape3 .given .1) (c .before .before .read-list .ensures)
+
+same-length-5 : tie.Need-same-length-5
+same-length-5 c = search needs
+
+returns-5 : tie.Need-returns-5
+returns-5 c =
+    let s = c .before .before .before .before .before .before .before .before in
+    shape-ending (reading (whole (s .args .frame .now) (s .args .bits))) (s .args .shape) (s .args .at) (s .args .place) (s .args .values .now) _ _ (c .before .before .before .before .enum-told2 .given .1) (c .before .before .read-field3 .ensures)
+
+returns-6 : tie.Need-returns-6
+returns-6 c =
+    let s = c .before .before .before .before .before .before .before .before in
+    shape-missing (s .args .shape) _ (s .args .at) (s .args .place) (s .args .values .now) (s .pre .1) (s .pre .2) (s .pre .3) _ _ _ (c .before .before .before .before .shape4 .given .1) (c .before .before .wide3 .ensures) (c .barred .ensures)
+
+same-length-6 : tie.Need-same-length-6
+same-length-6 c = search needs
+
+returns-7 : tie.Need-returns-7
+returns-7 c =
+    let s = c .before .before .before .before .before .before .before .before .before in
+    shape-nothing (s .args .shape) _ (s .args .at) (s .args .place) (s .args .values .now) (s .pre .1) (s .pre .2) (s .pre .3) _ _ _ _ (c .before .before .before .before .before .shape5 .given .1) (c .before .before .wide4 .ensures) (c .barred2 .ensures) (c .before .nothing-between .ensures)
+
+pub read-shape-spec : {M : Type 1} → statement M
+read-shape-spec =
+    tie.close
+    (tie.spec
+    enum-known-shape
+    wide-requires
+    number-requires
+    read-field-requires
+    enum-known-shape-2
+    wide-requires-2
+    choice-requires
+    read-field-requires-2
+    enum-told
+    read-identity-requires
+    enum-known-shape-3
+    read-list-requires
+    enum-told-2
+    read-field-requires-3
+    enum-known-shape-4
+    wide-requires-3
+    mul-barred
+    slice-read-barred
+    barred-requires
+    enum-known-shape-5
+    wide-requires-4
+    add-nothing-between
+    nothing-between-requires
+    barred-requires-2
+    same-length
+    returns
+    same-length-2
+    returns-2
+    same-length-3
+    returns-3
+    same-length-4
+    returns-4
+    same-length-5
+    returns-5
+    returns-6
+    same-length-6
+    returns-7)

@@ -1,0 +1,58 @@
+-- `reading::items::read_list` meets its contract: the count, then the items.
+-- Assumes nothing.
+use Rattle.table.proofs.Walks.{clear-after}
+use Rattle.reading.proofs.ReadLaws.{reading}
+use Rattle.reading.specs.Reads.{whole}
+use native.Mathlib.Omega.{arith}
+use Rattle.table.proofs.ListLaws.{list-on, list-stop}
+use borrow.Author.Needs.{needs}
+use Rattle.reading.proofs.items.read_list.Statement.{statement}
+use Rattle.reading.proofs.items.read_list.Tie as tie
+
+count-field-requires : tie.Need-count-field-requires
+count-field-requires c κs = search needs
+
+read-field-requires : tie.Need-read-field-requires
+read-field-requires c κs = search needs
+
+enum-known-next : tie.Need-enum-known-next
+enum-known-next c = search needs
+
+read-items-requires : tie.Need-read-items-requires
+read-items-requires c κs =
+    let s = c .before .before .before .before .before .before .before .before .before .before .before in
+    let f = c .before .before .before .before .before .before .read-field .ensures in
+    (s .pre .0, omega (arith, f .size), λ q h. clear-after (reading (whole (s .args .frame .now) (s .args .bits))) _ _ _ _ _ _ _ (c .before .before .next .given .1) f (s .pre .2) q (omega arith))
+
+enum-known-n : tie.Need-enum-known-n
+enum-known-n c = search needs
+
+same-length : tie.Need-same-length
+same-length c = search needs
+
+returns : tie.Need-returns
+returns c =
+    let s = c .before .before .before .before .before .before .before .before .before .before .before .before .before .before in
+    list-on (reading (whole (s .args .frame .now) (s .args .bits))) (s .args .items) (s .args .at) (s .args .place) (s .args .values .now) _ _ (c .before .before .before .before .before .before .before .before .before .before .count-field .ensures .0) _ (c .before .before .before .before .before .before .before .before .before .read-field .ensures) _ _ _ (c .before .before .before .before .before .next .given .1) (c .before .before .read-items .ensures)
+
+same-length-2 : tie.Need-same-length-2
+same-length-2 c = search needs
+
+returns-2 : tie.Need-returns-2
+returns-2 c =
+    let s = c .before .before .before .before .before .before .before .before .before .before in
+    list-stop (reading (whole (s .args .frame .now) (s .args .bits))) (s .args .items) (s .args .at) (s .args .place) (s .args .values .now) _ _ (c .before .before .before .before .before .before .count-field .ensures .0) _ (c .before .before .before .before .before .read-field .ensures) _ (c .before .n .given .1) tt
+
+pub read-list-spec : {M : Type 1} → statement M
+read-list-spec =
+    tie.close
+    (tie.spec
+    count-field-requires
+    read-field-requires
+    enum-known-next
+    read-items-requires
+    enum-known-n
+    same-length
+    returns
+    same-length-2
+    returns-2)

@@ -1,0 +1,2 @@
+-- What the reader's parts promise.
+pub mod Reads

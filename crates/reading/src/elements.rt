@@ -1,0 +1,145 @@
+// Reading a table's elements, one after the other. An element that is not there costs one test.
+use crate::Step;
+use crate::items::read_field;
+use crate::items::read_identity;
+use crate::items::read_list;
+use layout::Kind;
+use layout::PLACES;
+use layout::Reading;
+use layout::Record;
+use layout::Shape;
+use layout::Verdict;
+use layout::When;
+use refusal::Refusal;
+use table::fields::M_BIT;
+use table::fields::choice;
+use table::fields::number;
+use table::lines::count_of;
+use table::lines::span_of;
+use table::lines::table_of;
+use table::place::NO;
+use table::tests::holds;
+use table::tests::nothing_since;
+use table::tests::there;
+ghost use mathlib.Core.Path.{_≡_};
+ghost use mathlib.Core.List.{[]};
+ghost use Prim.Native.Nat.{_+_, _*_, _≤_};
+ghost use lib.Dec.{T};
+ghost use lib.ListN.{length, drop};
+ghost use Rattle.layout.specs.Frame.{rows, asReading};
+ghost use Rattle.layout.specs.Read as answer;
+ghost use Rattle.layout.specs.Read.{readRows};
+ghost use Rattle.layout.specs.Shape.{rowsOf, span, conditionsOf};
+ghost use Rattle.table.specs.Sound.{Clear, sound};
+ghost use Rattle.reading.specs.Reads.{whole, Reads, barredAt};
+
+const IF_NO: u8 = NO as u8;
+
+// The refusal of the element that begins one bit before, if there is a reason.
+fn barred(reason: bool, refusal: Refusal, at: usize) -> Step
+    ensures { λ r. ⌜ r ≡ barredAt reason refusal at ⌝ }
+{
+    if reason {
+        let before = if at == 0 { 0 } else { at - 1 };
+        Step::Refused(refusal, before)
+    } else {
+        Step::Next(at)
+    }
+}
+
+// The rows of a shape that is there.
+fn read_shape(
+    frame: &[u8],
+    bits: usize,
+    at: usize,
+    values: &mut [u32],
+    place: usize,
+    shape: Shape,
+) -> Step
+    requires { ⌜ (bits ≤ 8 * length (now frame)) × (place + span shape ≤ length (now values)) × Clear (now values) place × T (sound shape place) ⌝ }
+    ensures { λ r. ⌜ Reads (rowsOf shape [] place) (whole (now (frame .entry)) bits) at place (now (values .entry)) (now (values .exit)) r ⌝ }
+{
+    match shape {
+        Shape::Number(w) => read_field(frame, bits, at, values, place, number(w)),
+        Shape::Choice(w, n) => read_field(frame, bits, at, values, place, choice(w, n)),
+        Shape::Identity => read_identity(frame, bits, at, values, place),
+        Shape::List(items) => read_list(frame, bits, at, values, place, items),
+        Shape::Ending => read_field(frame, bits, at, values, place, M_BIT),
+        Shape::Missing(q) => barred(holds(&*values, q, IF_NO), Refusal::NoGroup, at),
+        Shape::Nothing(o) => barred(
+            nothing_since(&*values, o, place),
+            Refusal::NothingFollows,
+            at,
+        ),
+    }
+}
+
+// An element: its rows if it is there, else nothing.
+fn read_element(
+    frame: &[u8],
+    bits: usize,
+    at: usize,
+    values: &mut [u32],
+    place: usize,
+    when: When,
+    shape: Shape,
+) -> Step
+    requires { ⌜ (bits ≤ 8 * length (now frame)) × (place + span shape ≤ length (now values)) × Clear (now values) place × T (sound shape place) ⌝ }
+    ensures { λ r. ⌜ Reads (rowsOf shape (conditionsOf when) place) (whole (now (frame .entry)) bits) at place (now (values .entry)) (now (values .exit)) r ⌝ }
+{
+    if there(&*values, when) {
+        read_shape(frame, bits, at, values, place, shape)
+    } else {
+        Step::Next(at)
+    }
+}
+
+// The elements of a kind's table from the bit `from` on, and the end.
+pub fn read_elements(kind: Kind, frame: &[u8], bits: usize, from: usize) -> Reading
+    requires { ⌜ bits ≤ 8 * length (now frame) ⌝ }
+    ensures { λ r. ⌜ r ≡ asReading (readRows (rows kind) [] from (drop from (whole (now (frame .entry)) bits))) ⌝ }
+{
+    let table = table_of(kind);
+    let count = count_of(kind);
+    let mut values = [0u32; PLACES];
+    let mut at = from;
+    let mut place = 0;
+    let mut k = 0;
+    while k < count {
+        match read_element(
+            frame,
+            bits,
+            at,
+            &mut values,
+            place,
+            table[k].0,
+            table[k].1,
+        ) {
+            Step::Next(next) => {
+                at = next;
+            }
+            Step::Refused(n, _) => {
+                return refused(n);
+            }
+        }
+        place += span_of(table[k].1);
+        k += 1;
+    }
+    if at < bits {
+        return refused(Refusal::BitsRemain);
+    }
+    Reading {
+        verdict: Verdict::Frame,
+        values: Record { place: values },
+    }
+}
+
+// A refusal: the number alone.
+pub fn refused(refusal: Refusal) -> Reading
+    ensures { λ r. ⌜ r ≡ asReading (answer.refused refusal 0) ⌝ }
+{
+    Reading {
+        verdict: Verdict::Refused(refusal),
+        values: Record { place: [0u32; PLACES] },
+    }
+}

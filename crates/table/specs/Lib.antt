@@ -1,0 +1,4 @@
+-- What the code's tables and its tests of a record promise.
+pub mod Fields
+pub mod Lines
+pub mod Sound

@@ -1,0 +1,18 @@
+-- `writing::judge_record` meets its contract.
+-- Assumes nothing.
+use mathlib.Core.Path.{_∙_}
+use borrow.Author.Needs.{needs}
+use Rattle.writing.proofs.judge_record.Statement.{statement}
+use Rattle.writing.proofs.judge_record.Tie as tie
+
+walk-requires : tie.Need-walk-requires
+walk-requires c κs = search needs
+
+judged-requires : tie.Need-judged-requires
+judged-requires c κs = search needs
+
+returns : tie.Need-returns
+returns c = c .judged .ensures ∙ c .before .walk .ensures .judges
+
+pub judge-record-spec : {M : Type 1} → statement M
+judge-record-spec = tie.close (tie.spec walk-requires judged-requires returns)

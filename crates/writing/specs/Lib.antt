@@ -1,0 +1,3 @@
+-- What the writer's parts promise.
+pub mod Lay
+pub mod Whole

@@ -1,0 +1,113 @@
+// Laying a table's elements, one after the other. An element that is not there costs one test.
+use crate::HEAD_BITS;
+use crate::Laying;
+use crate::Put;
+use crate::Walked;
+use crate::items::lay_field;
+use crate::items::lay_identity;
+use crate::items::lay_list;
+use layout::Kind;
+use layout::PLACES;
+use layout::Shape;
+use table::fields::M_BIT;
+use table::fields::choice;
+use table::fields::number;
+use table::lines::count_of;
+use table::lines::span_of;
+use table::lines::table_of;
+use table::place::NO;
+use table::tests::holds;
+use table::tests::nothing_since;
+use table::tests::there;
+ghost use mathlib.Core.Path.{_≡_};
+ghost use mathlib.Core.List.{[]};
+ghost use lib.Dec.{T};
+ghost use lib.ListN.{length};
+ghost use Rattle.layout.specs.Frame.{places, laid};
+ghost use Rattle.layout.specs.Shape.{rowsOf, span};
+ghost use Rattle.table.specs.Sound.{sound};
+ghost use Rattle.writing.specs.Lay.{Ready, Puts, toldOf, Walks};
+
+const IF_NO: u8 = NO as u8;
+
+fn told(put: Put) -> Laying
+    ensures { λ r. ⌜ r ≡ toldOf put ⌝ }
+{
+    match put {
+        Put::Next(at) => Laying::Next(at),
+        Put::Bad => Laying::Bad,
+    }
+}
+
+// The rows of a shape that is there.
+fn lay_shape(
+    values: &[u32],
+    clean: &mut [u32],
+    out: &mut [u8],
+    at: usize,
+    place: usize,
+    shape: Shape,
+) -> Laying
+    requires { ⌜ Ready (now values) (now clean) at place (span shape) × T (sound shape place) ⌝ }
+    ensures { λ r. ⌜ Puts (rowsOf shape [] place) (now (values .entry)) at place (now (clean .entry)) (now (clean .exit)) (now (out .entry)) (now (out .exit)) r ⌝ }
+{
+    match shape {
+        Shape::Number(w) => told(lay_field(values, clean, out, at, place, number(w))),
+        Shape::Choice(w, n) => {
+            told(lay_field(values, clean, out, at, place, choice(w, n)))
+        }
+        Shape::Identity => told(lay_identity(values, clean, out, at, place)),
+        Shape::List(items) => told(lay_list(values, clean, out, at, place, items)),
+        Shape::Ending => told(lay_field(values, clean, out, at, place, M_BIT)),
+        Shape::Missing(q) => {
+            if holds(&*clean, q, IF_NO) {
+                Laying::NoGroup
+            } else {
+                Laying::Next(at)
+            }
+        }
+        Shape::Nothing(o) => {
+            if nothing_since(&*clean, o, place) {
+                Laying::Bad
+            } else {
+                Laying::Next(at)
+            }
+        }
+    }
+}
+
+// The elements of a kind's table, after the head.
+pub fn lay_elements(kind: Kind, values: &[u32], out: &mut [u8]) -> Walked
+    requires { ⌜ length (now values) ≡ places ⌝ }
+    ensures { λ r. ⌜ Walks (laid kind (now (values .entry))) (now (out .entry)) (now (out .exit)) r ⌝ }
+{
+    let table = table_of(kind);
+    let count = count_of(kind);
+    let mut clean = [0u32; PLACES];
+    let mut grouped = true;
+    let mut at = HEAD_BITS;
+    let mut place = 0;
+    let mut k = 0;
+    while k < count {
+        if there(&clean, table[k].0) {
+            match lay_shape(values, &mut clean, out, at, place, table[k].1) {
+                Laying::Next(next) => {
+                    at = next;
+                }
+                Laying::NoGroup => {
+                    grouped = false;
+                }
+                Laying::Bad => {
+                    return Walked::Reserved;
+                }
+            }
+        }
+        place += span_of(table[k].1);
+        k += 1;
+    }
+    if grouped {
+        Walked::Bits(at)
+    } else {
+        Walked::NoGroup
+    }
+}
