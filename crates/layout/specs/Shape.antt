@@ -8,7 +8,7 @@ use Rattle.refusal.specs.declared.Refusal.{Refusal}
 use Rattle.refusal.specs.declared.Refusal.the-variants.{Reserved, NoGroup, NothingFollows, TypeThree}
 use Rattle.layout.specs.Row.{Condition, is, atLeast, nothingSince, Row}
 use Rattle.layout.specs.declared.When.{When}
-use Rattle.layout.specs.declared.When.the-variants.{Always, Is, Both, All}
+use Rattle.layout.specs.declared.When.the-variants.{Always, Is, All}
 use Rattle.layout.specs.declared.Shape.{Shape}
 use Rattle.layout.specs.declared.Items.{Items}
 use Rattle.layout.specs.declared.Items.the-variants.{Numbers, Letters}
@@ -90,11 +90,10 @@ span Ending = 1
 span (Missing place) = 1
 span (Nothing o) = 1
 
--- a chain of conditions, outermost first: places that hold 1, and a last one that holds a value
+-- a chain of conditions, outermost first: two places hold 1, and a last one holds a value
 abbrev pub conditionsOf : When → List Condition
 conditionsOf Always = []
 conditionsOf (Is place v) = is place v ∷ []
-conditionsOf (Both a place v) = is a 1 ∷ is place v ∷ []
 conditionsOf (All a b place v) = is a 1 ∷ is b 1 ∷ is place v ∷ []
 
 -- the rows of elements, of which the first begins at the place p

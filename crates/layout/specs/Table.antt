@@ -6,7 +6,7 @@ use mathlib.Core.List.{List, [], _∷_, _++_}
 use Rattle.layout.specs.declared.Kind.{Kind}
 use Rattle.layout.specs.declared.Kind.the-variants.{Define, DefineAck, Cancel, CancelAck}
 use Rattle.layout.specs.declared.When.{When}
-use Rattle.layout.specs.declared.When.the-variants.{Always, Is, Both, All}
+use Rattle.layout.specs.declared.When.the-variants.{Always, Is, All}
 use Rattle.layout.specs.declared.Shape.{Shape}
 use Rattle.layout.specs.declared.Shape.the-variants.{Number, Choice, Identity, Ending, Missing, Nothing}
 use Rattle.layout.specs.declared.Shape.the-variants as shape
@@ -16,7 +16,7 @@ use Rattle.layout.specs.declared.DefinePlaces.{DefinePlaces}
 use Rattle.layout.specs.declared.DefineAckPlaces.{DefineAckPlaces}
 use Rattle.layout.specs.declared.CancelPlaces.{CancelPlaces}
 use Rattle.layout.specs.declared.CancelAckPlaces.{CancelAckPlaces}
-use Rattle.layout.specs.Shape.{Yes, No, spans}
+use Rattle.layout.specs.Shape.{Yes, No, span, spans}
 
 -- elements that begin at a place of the record, and what is known by their places
 pub record Part (A : Type 0) : Type 0 where
@@ -51,9 +51,9 @@ always = Always
 abbrev pub _is_ : ℕ → ℕ → When
 place is v = Is place v
 
--- the O-bit at o is 1, and the place behind it holds v
+-- the O-bit at o is 1, and this place holds v: a chain of two, which has its first place twice
 abbrev pub afterIs : ℕ → ℕ → ℕ → When
-afterIs o place v = Both o place v
+afterIs o place v = All o o place v
 
 -- an optional element's P-bit is at the place before it
 abbrev pub pBit : ℕ → ℕ
@@ -65,7 +65,7 @@ optionIs o place v = All o (pBit place) place v
 
 -- ---- elements
 abbrev pub element : Shape → When → Placed ℕ
-element shape when place = record { elements = record { 0 = when; 1 = shape } ∷ []; known = place }
+element shape when place = record { elements = record { 0 = when; 1 = shape; 2 = span shape } ∷ []; known = place }
 
 abbrev pub number : ℕ → When → Placed ℕ
 number width = element (Number width)

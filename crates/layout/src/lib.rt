@@ -12,11 +12,11 @@ pub enum Kind {
     CancelAck,
 }
 
-// When an element is there: a chain of conditions, outermost first. The last is that a place holds a value; those before it that a place holds 1.
+// When an element is there: always, where a place holds a value, or by a chain of conditions, outermost first.
+// In a chain two places hold 1, and then a place holds a value; a chain of two has its first place twice.
 pub enum When {
     Always,
     Is(u8, u8),
-    Both(u8, u8, u8),
     All(u8, u8, u8, u8),
 }
 
@@ -43,8 +43,8 @@ pub enum Shape {
     Nothing(u8),
 }
 
-// One line of a table.
-pub struct Element(pub When, pub Shape);
+// One line of a table: when it is there, what it is made of, and how many places it takes.
+pub struct Element(pub When, pub Shape, pub u8);
 
 // A frame's values, one place a row of its table, after SS-Type and action type; 0 where the row is not there.
 pub struct Record {

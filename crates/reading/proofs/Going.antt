@@ -21,7 +21,7 @@ use Rattle.layout.specs.Row.{Row}
 use Rattle.layout.specs.Read.{frame, refused, readRows}
 use Rattle.layout.specs.Shape.{rowsOf, span, conditionsOf, unrolled}
 use Rattle.layout.specs.Table.{tableOf, ssType, actionType}
-use Rattle.layout.specs.Frame.{rows, read, readBytes, asReading, readingOf}
+use Rattle.layout.specs.Frame.{places, rows, read, readBytes, asReading, readingOf}
 use Rattle.table.specs.Lines.{past}
 use Rattle.table.specs.Sound.{Clear}
 use Rattle.reading.specs.Reads.{whole, onward, Reads}
@@ -34,16 +34,16 @@ pub record Going (es : List Element) (bits : List Bool) (from : ℕ) (vs : List 
   pub same : readRows (unrolled es 0) [] from (drop from bits) ≡ readRows (unrolled (drop k es) p) (take p vs) at (drop at bits)
   pub placed : Placed es p k
   pub clear : Clear vs p
-  pub size : length vs ≡ 166
+  pub size : length vs ≡ places
   pub passed : k ≤ length es
 
 all-zero : (l : List ℕ) → ((q : ℕ) → getD l q 0 ≡ 0) → l ≡ replicate (length l) 0
 all-zero [] z = refl
 all-zero (x ∷ l) z = ap₂ _∷_ (z 0) (all-zero l (λ q. z (suc q)))
 
-pub going-none : (kind : Kind) (es : List Element) (bits : List Bool) (from : ℕ) → es ≡ tableOf kind → Going es bits from (replicate 166 0) from 0 0
+pub going-none : (kind : Kind) (es : List Element) (bits : List Bool) (from : ℕ) → es ≡ tableOf kind → Going es bits from (replicate places 0) from 0 0
 going-none kind es bits from e =
-    record { same = refl; placed = placed-none kind es e; clear = λ q h. zeros 166 q; size = refl; passed = omega arith }
+    record { same = refl; placed = placed-none kind es e; clear = λ q h. zeros places q; size = refl; passed = omega arith }
   where
     zeros : (n q : ℕ) → getD {A = ℕ} (replicate n 0) q 0 ≡ 0
     zeros zero q = refl
@@ -51,7 +51,7 @@ going-none kind es bits from e =
     zeros (suc n) (suc q) = zeros n q
 
 module _ (es : List Element) (bits : List Bool) (from : ℕ) (vs vs′ : List ℕ) (at p k : ℕ) (e : Element) (now : Going es bits from vs at p k) (inside : k < length es)
-    (is : getD es k none ≡ e) (s : Step) (f : Reads (rowsOf (e .1) (conditionsOf (e .0)) p) bits at p vs vs′ s) where
+    (is : getD es k past ≡ e) (s : Step) (f : Reads (rowsOf (e .1) (conditionsOf (e .0)) p) bits at p vs vs′ s) where
   rest : List Row
   rest = unrolled (drop (k + 1) es) (p + span (e .1))
 
@@ -87,9 +87,9 @@ module _ (es : List Element) (bits : List Bool) (from : ℕ) (vs : List ℕ) (at
   -- the values are the record so far and 0s
   whole-record : take p vs ++ replicate (166 - length (take p vs)) 0 ≡ vs
   whole-record =
-      let low : p ≤ 166 = omega (arith, now .placed .room) in
+      let low : p ≤ places = omega (arith, now .placed .room) in
       let n : length (take p vs) ≡ p = length-take-le p vs (omega (arith, now .size)) in
-      let left : 166 - length (take p vs) ≡ length (drop p vs) = omega (arith, n, now .size, length-drop p vs) in
+      let left : places - length (take p vs) ≡ length (drop p vs) = omega (arith, n, now .size, length-drop p vs) in
       ap (λ (m : ℕ). take p vs ++ replicate m 0) left
       ∙ ap (λ (l : List ℕ). take p vs ++ l) (sym (all-zero (drop p vs) (λ q. getD-drop p vs q 0 ∙ now .clear (p + q) (omega arith))))
       ∙ take-append-drop p vs

@@ -1,4 +1,3 @@
 pub mod ReadLaws
 pub mod RefusalLaws
 pub mod Going
-pub mod Unique

@@ -3,19 +3,18 @@ use crate::Step;
 use crate::items::read_field;
 use crate::items::read_identity;
 use crate::items::read_list;
+use layout::Element;
 use layout::Kind;
 use layout::PLACES;
 use layout::Reading;
 use layout::Record;
 use layout::Shape;
 use layout::Verdict;
-use layout::When;
 use refusal::Refusal;
 use table::fields::M_BIT;
 use table::fields::choice;
 use table::fields::number;
 use table::lines::count_of;
-use table::lines::span_of;
 use table::lines::table_of;
 use table::place::NO;
 use table::tests::holds;
@@ -81,12 +80,13 @@ fn read_element(
     at: usize,
     values: &mut [u32],
     place: usize,
-    when: When,
-    shape: Shape,
+    element: Element,
 ) -> Step
-    requires { ⌜ (bits ≤ 8 * length (now frame)) × (place + span shape ≤ length (now values)) × Clear (now values) place × T (sound shape place) ⌝ }
-    ensures { λ r. ⌜ Reads (rowsOf shape (conditionsOf when) place) (whole (now (frame .entry)) bits) at place (now (values .entry)) (now (values .exit)) r ⌝ }
+    requires { ⌜ (bits ≤ 8 * length (now frame)) × (place + span (element .1) ≤ length (now values)) × Clear (now values) place × T (sound (element .1) place) ⌝ }
+    ensures { λ r. ⌜ Reads (rowsOf (element .1) (conditionsOf (element .0)) place) (whole (now (frame .entry)) bits) at place (now (values .entry)) (now (values .exit)) r ⌝ }
 {
+    let when = element.0;
+    let shape = element.1;
     if there(&*values, when) {
         read_shape(frame, bits, at, values, place, shape)
     } else {
@@ -106,15 +106,8 @@ pub fn read_elements(kind: Kind, frame: &[u8], bits: usize, from: usize) -> Read
     let mut place = 0;
     let mut k = 0;
     while k < count {
-        match read_element(
-            frame,
-            bits,
-            at,
-            &mut values,
-            place,
-            table[k].0,
-            table[k].1,
-        ) {
+        let element = table[k];
+        match read_element(frame, bits, at, &mut values, place, element) {
             Step::Next(next) => {
                 at = next;
             }
@@ -122,7 +115,7 @@ pub fn read_elements(kind: Kind, frame: &[u8], bits: usize, from: usize) -> Read
                 return refused(n);
             }
         }
-        place += span_of(table[k].1);
+        place += element.2 as usize;
         k += 1;
     }
     if at < bits {
@@ -140,6 +133,8 @@ pub fn refused(refusal: Refusal) -> Reading
 {
     Reading {
         verdict: Verdict::Refused(refusal),
-        values: Record { place: [0u32; PLACES] },
+        values: Record {
+            place: [0u32; PLACES],
+        },
     }
 }

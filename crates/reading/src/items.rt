@@ -18,6 +18,7 @@ ghost use mathlib.Core.Path.{_≡_};
 ghost use mathlib.Core.List.{[], _∷_};
 ghost use Prim.Native.Nat.{_+_, _*_, _≤_, _<_};
 ghost use lib.ListN.{length, drop};
+ghost use Rattle.layout.specs.declared.Shape.the-variants as shape;
 ghost use Rattle.layout.specs.Row.{atLeast};
 ghost use Rattle.layout.specs.Shape.{times, least, stride, identity, item, repeated, rowsOf};
 ghost use Rattle.table.specs.Fields.{rowFor, Narrow};
@@ -172,7 +173,7 @@ pub fn read_list(
     items: Items,
 ) -> Step
     requires { ⌜ (bits ≤ 8 * length (now frame)) × (place + 1 + stride items * times items ≤ length (now values)) × Clear (now values) place ⌝ }
-    ensures { λ r. ⌜ Reads (rowsOf (Shape.List items) [] place) (whole (now (frame .entry)) bits) at place (now (values .entry)) (now (values .exit)) r ⌝ }
+    ensures { λ r. ⌜ Reads (rowsOf (shape.List items) [] place) (whole (now (frame .entry)) bits) at place (now (values .entry)) (now (values .exit)) r ⌝ }
 {
     match read_field(frame, bits, at, values, place, count_field(items)) {
         Step::Next(next) => read_items(frame, bits, next, values, place, items),

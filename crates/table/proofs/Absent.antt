@@ -19,7 +19,7 @@ use Rattle.layout.specs.declared.Shape.{Shape}
 use Rattle.layout.specs.declared.Shape.the-variants.{Number, Choice, Identity, Ending, Missing, Nothing}
 use Rattle.layout.specs.declared.Shape.the-variants as shape
 use Rattle.layout.specs.declared.When.{When}
-use Rattle.layout.specs.declared.When.the-variants.{Always, Is, Both, All}
+use Rattle.layout.specs.declared.When.the-variants.{Always, Is, All}
 use Rattle.table.specs.Sound.{Clear}
 use Rattle.table.proofs.Walks.{Walk}
 use Rattle.layout.proofs.Tests.{and-false}
@@ -147,7 +147,6 @@ pub present-when : (w : When) (vs : List ℕ) (n : ℕ) → Clear vs n → prese
 unfolding present
 present-when Always vs n z = refl
 present-when (Is q v) vs n z = rw (getD-clear vs n q z)
-present-when (Both a q v) vs n z = rw (getD-clear vs n a z, getD-clear vs n q z)
 present-when (All a b q v) vs n z = rw (getD-clear vs n a z, getD-clear vs n b z, getD-clear vs n q z)
 
 pub shut-element : (w : When) (s : Shape) (p : ℕ) (vs : List ℕ) → present vs (conditionsOf w) ≡ false → Clear vs p → Shut vs p (rowsOf s (conditionsOf w) p)

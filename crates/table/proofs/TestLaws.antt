@@ -10,7 +10,7 @@ use lib.Dec.{eqb}
 use lib.ListN.{length, take, drop, getD, length-take, drop-of-length-le}
 use lib.Seq.{drop-cons, getD-take}
 use Rattle.layout.specs.declared.When.{When}
-use Rattle.layout.specs.declared.When.the-variants.{Is, Both, All}
+use Rattle.layout.specs.declared.When.the-variants.{Is, All}
 use Rattle.layout.specs.Row.{all, present}
 use Rattle.layout.specs.Shape.{conditionsOf}
 use Rattle.layout.proofs.Tests.{and-true, and-false}
@@ -20,14 +20,6 @@ module _ (w : When) (vs : List ℕ) (q v : ℕ) where
   pub there-is : (t : Bool) → w ≡ Is q v → t ≡ eqb (getD vs q 0) v → t ≡ present vs (conditionsOf w)
   unfolding present
   there-is t e d = d ∙ rw (e, and-true (eqb (getD vs q 0) v))
-
-  pub there-both : (a : ℕ) (t : Bool) → w ≡ Both a q v → eqb (getD vs q 0) v ≡ true → t ≡ eqb (getD vs a 0) 1 → t ≡ present vs (conditionsOf w)
-  unfolding present
-  there-both a t e on d = d ∙ rw (e, on, and-true (eqb (getD vs a 0) 1))
-
-  pub both-off : (a : ℕ) → w ≡ Both a q v → eqb (getD vs q 0) v ≡ false → false ≡ present vs (conditionsOf w)
-  unfolding present
-  both-off a e off = rw (e, off, and-false (eqb (getD vs a 0) 1))
 
   pub there-all : (a b : ℕ) (s t : Bool) → w ≡ All a b q v → eqb (getD vs q 0) v ≡ true → s ≡ eqb (getD vs b 0) 1 → t ≡ eqb (getD vs a 0) 1 → s && t ≡ present vs (conditionsOf w)
   unfolding present

@@ -1,19 +1,34 @@
--- The lines of a table, filled up to one size for every kind.
+-- The lines of a table as the code holds them, in one size for every kind: a short table stands at the front of table 19.
 -- Assumes nothing.
 use Prim.Native.Nat.{ℕ, _-_}
 use mathlib.Core.List.{List, _++_}
-use lib.ListN.{length, replicate}
+use lib.ListN.{length, drop, replicate}
+use Rattle.layout.specs.declared.Kind.{Kind}
+use Rattle.layout.specs.declared.Kind.the-variants.{Define, DefineAck, Cancel, CancelAck}
 use Rattle.layout.specs.declared.When.the-variants.{Always}
 use Rattle.layout.specs.declared.Shape.the-variants.{Number}
 use Rattle.layout.specs.declared.Element.{Element}
+use Rattle.layout.specs.Table.{define, tableOf}
 
--- as many as the longest table has
+-- as many as the longest table has, and as a short one has
 abbrev pub lines : ℕ
 lines = 30
 
--- what stands past a table's end
+abbrev pub shortLines : ℕ
+shortLines = 8
+
+-- what stands past a short table's end
 abbrev pub past : Element
-past = record { 0 = Always; 1 = Number 0 }
+past = record { 0 = Always; 1 = Number 0; 2 = 0 }
 
 abbrev pub filled : List Element → List Element
-filled table = table ++ replicate (lines - length table) past
+filled table = table ++ replicate (shortLines - length table) past
+
+abbrev pub fronted : List Element → List Element
+fronted short = short ++ drop shortLines (define .elements)
+
+abbrev pub linesOf : Kind → List Element
+linesOf Define = define .elements
+linesOf DefineAck = fronted (filled (tableOf DefineAck))
+linesOf Cancel = fronted (filled (tableOf Cancel))
+linesOf CancelAck = fronted (filled (tableOf CancelAck))

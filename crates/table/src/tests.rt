@@ -26,13 +26,6 @@ pub fn there(values: &[u32], when: When) -> bool
     match when {
         When::Always => true,
         When::Is(place, v) => holds(values, place, v),
-        When::Both(a, place, v) => {
-            if holds(values, place, v) {
-                holds(values, a, 1)
-            } else {
-                false
-            }
-        }
         When::All(a, b, place, v) => {
             if holds(values, place, v) {
                 holds(values, b, 1) & holds(values, a, 1)

@@ -1,6 +1,6 @@
 -- `reading::elements::read_elements` meets its contract. The loop's invariant: the rest, read from here, is what the whole is read as.
 -- Assumes nothing.
-use Rattle.table.proofs.TableLaws.{table-held, placed-looks, placed-sound, placed-room}
+use Rattle.table.proofs.TableLaws.{table-held, placed-span, placed-sound, placed-room}
 use Prim.Native.Nat.{_-_, _<_}
 use mathlib.Core.Path.{sym, ap, _∙_}
 use native.Mathlib.Omega.{arith}
@@ -55,7 +55,6 @@ read-element-requires c κs =
       s .pre,
       omega (arith, placed-room _ (l .place) (l .k) _ (l .inv .placed) inside is, l .inv .size),
       l .inv .clear,
-      rw (l .inv .size) (placed-looks _ (l .place) (l .k) _ (l .inv .placed) inside is),
       placed-sound _ (l .place) (l .k) _ (l .inv .placed) inside is,
     )
 
@@ -78,8 +77,13 @@ returns c =
     c .refused .ensures ∙ ap asReading (sym (going-stop _ _ (s .args .from) (l .values) _ (l .at) (l .place) (l .k) _ (l .inv) inside (t .at (l .k) (c .before .before .before .before .before .before .before .before .loop-test .taken)) _ (c .before .before .before .before .before .read-element .ensures) _ _ (c .before .before .n .given .1)))
     ∙ rw (t .same)
 
-span-of-requires : tie.Need-span-of-requires Inv-loop μ-loop
-span-of-requires c κs = search needs
+cast-place : tie.Need-cast-place Inv-loop μ-loop
+cast-place c =
+    let l = c .before .before .before .before .before .before .before .before .before .loop in
+    let t = table-held (c .before .before .before .before .before .before .before .before .before .before .before .before .before .args .kind) _ _ (c .before .before .before .before .before .before .before .before .before .before .before .table-of .ensures) (c .before .before .before .before .before .before .before .before .before .before .count-of .ensures) in
+    let inside : l .k < length (take (c .before .before .before .before .before .before .before .before .before .before .count-of .result) (c .before .before .before .before .before .before .before .before .before .before .before .table-of .result)) = omega (arith, t .size, c .before .before .before .before .before .before .before .before .loop-test .taken) in
+    let is = t .at (l .k) (c .before .before .before .before .before .before .before .before .loop-test .taken) in
+    omega (arith, placed-room _ (l .place) (l .k) _ (l .inv .placed) inside is, placed-span _ (l .place) (l .k) _ (l .inv .placed) inside is)
 
 add-place : tie.Need-add-place Inv-loop μ-loop
 add-place c =
@@ -87,12 +91,12 @@ add-place c =
     let l = c .before .before .before .before .before .before .before .before .before .loop in
     let t = table-held (s .args .kind) _ _ (c .before .before .before .before .before .before .before .before .before .before .before .table-of .ensures) (c .before .before .before .before .before .before .before .before .before .before .count-of .ensures) in
     let inside : l .k < length (take (c .before .before .before .before .before .before .before .before .before .before .count-of .result) (c .before .before .before .before .before .before .before .before .before .before .before .table-of .result)) = omega (arith, t .size, c .before .before .before .before .before .before .before .before .loop-test .taken) in
-    omega (arith, placed-room _ (l .place) (l .k) _ (l .inv .placed) inside (t .at (l .k) (c .before .before .before .before .before .before .before .before .loop-test .taken)), c .span-of .ensures)
+    let is = t .at (l .k) (c .before .before .before .before .before .before .before .before .loop-test .taken) in
+    omega (arith, placed-room _ (l .place) (l .k) _ (l .inv .placed) inside is, placed-span _ (l .place) (l .k) _ (l .inv .placed) inside is)
 
 add-k : tie.Need-add-k Inv-loop μ-loop
 add-k c =
-    let s = c .before .before .before .before .before .before .before .before .before .before .before .before .before in
-    let t = table-held (s .args .kind) _ _ (c .before .before .before .before .before .before .before .before .before .before .before .table-of .ensures) (c .before .before .before .before .before .before .before .before .before .before .count-of .ensures) in
+    let t = table-held (c .before .before .before .before .before .before .before .before .before .before .before .before .before .args .kind) _ _ (c .before .before .before .before .before .before .before .before .before .before .before .table-of .ensures) (c .before .before .before .before .before .before .before .before .before .before .count-of .ensures) in
     omega (arith, t .few, c .before .before .before .before .before .before .before .before .loop-test .taken)
 
 loop-less : tie.Need-loop-less Inv-loop μ-loop
@@ -104,7 +108,9 @@ loop-again c =
     let l = c .before .before .before .before .before .before .before .before .before .loop in
     let t = table-held (s .args .kind) _ _ (c .before .before .before .before .before .before .before .before .before .before .before .table-of .ensures) (c .before .before .before .before .before .before .before .before .before .before .count-of .ensures) in
     let inside : l .k < length (take (c .before .before .before .before .before .before .before .before .before .before .count-of .result) (c .before .before .before .before .before .before .before .before .before .before .before .table-of .result)) = omega (arith, t .size, c .before .before .before .before .before .before .before .before .loop-test .taken) in
-    going-more _ _ (s .args .from) (l .values) _ (l .at) (l .place) (l .k) _ (l .inv) inside (t .at (l .k) (c .before .before .before .before .before .before .before .before .loop-test .taken)) _ (c .before .before .before .before .before .read-element .ensures) _ _ (c .before .before .next .given .1) (c .span-of .ensures)
+    let is = t .at (l .k) (c .before .before .before .before .before .before .before .before .loop-test .taken) in
+    going-more _ _ (s .args .from) (l .values) _ (l .at) (l .place) (l .k) _ (l .inv) inside is _ (c .before .before .before .before .before .read-element .ensures) _ _ (c .before .before .next .given .1)
+    (placed-span _ (l .place) (l .k) _ (l .inv .placed) inside is)
 
 refused-requires-2 : tie.Need-refused-requires-2 Inv-loop μ-loop
 refused-requires-2 c κs = search needs
@@ -145,7 +151,7 @@ read-elements-spec =
     enum-known-n
     refused-requires
     returns
-    span-of-requires
+    cast-place
     add-place
     add-k
     loop-less

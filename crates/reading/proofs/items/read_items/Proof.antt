@@ -38,7 +38,7 @@ read-listed-requires c κs =
     let many = c .before .before .before .before .times-of .ensures in
     let less = c .before .loop-test .taken in
     let room = listing-room (reading (whole (s .args .frame .now) (s .args .bits))) (s .args .items) (s .args .from) (s .args .count) (s .args .values .now) (l .values) (l .at) (l .place) (l .i) (times (s .args .items)) (l .inv .0) (omega arith) (s .pre .1) in
-    (s .pre .0, omega (arith, times-most (s .args .items)), omega (arith, l .inv .0 .place), room, l .inv .0 .clear)
+    (s .pre .0, omega (arith, l .inv .0 .place), room, l .inv .0 .clear)
 
 enum-known-next : tie.Need-enum-known-next Inv-loop μ-loop
 enum-known-next c = search needs

@@ -3,6 +3,10 @@
 use Rattle.table.proofs.Walks.{clear-after}
 use Rattle.reading.proofs.ReadLaws.{reading}
 use Rattle.reading.specs.Reads.{whole}
+use mathlib.Core.Path.{sym, ap, subst}
+use mathlib.Core.List.{[]}
+use Rattle.table.specs.Fields.{rowFor, Narrow}
+use Rattle.table.proofs.FieldLaws.{count-narrow}
 use native.Mathlib.Omega.{arith}
 use Rattle.table.proofs.ListLaws.{list-on, list-stop}
 use borrow.Author.Needs.{needs}
@@ -13,7 +17,9 @@ count-field-requires : tie.Need-count-field-requires
 count-field-requires c κs = search needs
 
 read-field-requires : tie.Need-read-field-requires
-read-field-requires c κs = search needs
+read-field-requires c κs =
+    let s = c .before .before .before .before in
+    (s .pre .0, omega arith, subst Narrow (sym (c .count-field .ensures)) (count-narrow (s .args .items)))
 
 enum-known-next : tie.Need-enum-known-next
 enum-known-next c = search needs
@@ -33,7 +39,7 @@ same-length c = search needs
 returns : tie.Need-returns
 returns c =
     let s = c .before .before .before .before .before .before .before .before .before .before .before .before .before .before in
-    list-on (reading (whole (s .args .frame .now) (s .args .bits))) (s .args .items) (s .args .at) (s .args .place) (s .args .values .now) _ _ (c .before .before .before .before .before .before .before .before .before .before .count-field .ensures .0) _ (c .before .before .before .before .before .before .before .before .before .read-field .ensures) _ _ _ (c .before .before .before .before .before .next .given .1) (c .before .before .read-items .ensures)
+    list-on (reading (whole (s .args .frame .now) (s .args .bits))) (s .args .items) (s .args .at) (s .args .place) (s .args .values .now) _ _ (ap (λ x. rowFor x []) (c .before .before .before .before .before .before .before .before .before .before .count-field .ensures)) _ (c .before .before .before .before .before .before .before .before .before .read-field .ensures) _ _ _ (c .before .before .before .before .before .next .given .1) (c .before .before .read-items .ensures)
 
 same-length-2 : tie.Need-same-length-2
 same-length-2 c = search needs
@@ -41,7 +47,7 @@ same-length-2 c = search needs
 returns-2 : tie.Need-returns-2
 returns-2 c =
     let s = c .before .before .before .before .before .before .before .before .before .before in
-    list-stop (reading (whole (s .args .frame .now) (s .args .bits))) (s .args .items) (s .args .at) (s .args .place) (s .args .values .now) _ _ (c .before .before .before .before .before .before .count-field .ensures .0) _ (c .before .before .before .before .before .read-field .ensures) _ (c .before .n .given .1) tt
+    list-stop (reading (whole (s .args .frame .now) (s .args .bits))) (s .args .items) (s .args .at) (s .args .place) (s .args .values .now) _ _ (ap (λ x. rowFor x []) (c .before .before .before .before .before .before .count-field .ensures)) _ (c .before .before .before .before .before .read-field .ensures) _ (c .before .n .given .1) tt
 
 pub read-list-spec : {M : Type 1} → statement M
 read-list-spec =

@@ -26,12 +26,12 @@ same-length c = search needs
 returns : tie.Need-returns
 returns c =
     let s = c .before .before .before .before .before .before .before .before .before in
-    item-on (reading (whole (s .args .frame .now) (s .args .bits))) (s .args .items) (s .args .count) (s .args .place) _ (s .args .values .now) (s .pre .2) (s .args .at) _ _ (omega (arith, c .before .before .before .before .before .before .least-for .ensures)) (c .before .before .read-item .ensures)
+    item-on (reading (whole (s .args .frame .now) (s .args .bits))) (s .args .items) (s .args .count) (s .args .place) _ (s .args .values .now) (s .pre .1) (s .args .at) _ _ (omega (arith, c .before .before .before .before .before .before .least-for .ensures)) (c .before .before .read-item .ensures)
 
 returns-2 : tie.Need-returns-2
 returns-2 c =
     let s = c .before .before .before .before .before in
-    item-off (reading (whole (s .args .frame .now) (s .args .bits))) (s .args .items) (s .args .count) (s .args .place) _ (s .args .values .now) (s .pre .2) (s .args .at) (omega (arith, c .before .before .least-for .ensures)) (s .pre .4) (s .pre .3)
+    item-off (reading (whole (s .args .frame .now) (s .args .bits))) (s .args .items) (s .args .count) (s .args .place) _ (s .args .values .now) (s .pre .1) (s .args .at) (omega (arith, c .before .before .least-for .ensures)) (s .pre .3) (s .pre .2)
 
 pub read-listed-spec : {M : Type 1} → statement M
 read-listed-spec =
