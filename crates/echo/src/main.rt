@@ -7,9 +7,10 @@ ghost use mathlib.Core.Path.{_≡_};
 ghost use mathlib.Core.Bool.{false};
 ghost use Prim.Native.Nat.{_+_, _≤_, min};
 ghost use lib.ListN.{length, take};
-ghost use lib.Seq.{slice};
+ghost use lib.Seq.{slice, sets};
 ghost use Rattle.echo.specs.Kept.{moved};
 ghost use Rattle.echo.specs.Line.{hasNewline, lineEnd};
+ghost use Rattle.echo.specs.Reply.{replyTo};
 ghost use Rattle.echo.specs.Room.{longestReply, mostHeld, RoomIn, RestOf, KeptOf, HeldIn};
 
 // The longest reply: A, the 432 digits of the longest line, and a newline.
@@ -85,7 +86,8 @@ fn line_end(text: &[u8], from: usize) -> usize
 // Puts the reply to a line and a newline at the front of `out`, and answers how many bytes they take.
 fn reply(line: &[u8], out: &mut [u8]) -> usize
     requires { ⌜ longestReply ≤ length (now out) ⌝ }
-    ensures { λ r. ⌜ r ≤ longestReply ⌝ }
+    ensures { λ r. ⌜ (r ≤ longestReply) × (r ≡ length (replyTo (now (line .entry)))) ⌝ }
+    ensures { λ r. ⌜ now (out .exit) ≡ sets (now (out .entry)) 0 (replyTo (now (line .entry))) ⌝ }
 {
     let count = echo_line(line, out);
     out[count] = b'\n';
@@ -119,7 +121,7 @@ fn make_room(out: &[u8], filled: usize) -> Room
 // Answers a line behind what is filled.
 fn answer(line: &[u8], out: &mut [u8], filled: usize) -> Room
     requires { ⌜ filled + longestReply ≤ length (now out) ⌝ }
-    ensures { λ r. ⌜ RoomIn (length (now (out .exit))) r ⌝ }
+    ensures { λ r. ⌜ RoomIn (length (now (out .exit))) r × (now (out .exit) ≡ sets (now (out .entry)) filled (replyTo (now (line .entry)))) ⌝ }
 {
     let count = reply(line, &mut out[filled..]);
     make_room(out, filled + count)
@@ -177,7 +179,7 @@ fn interrupted(held: usize) -> bool {
     if 0 < held {
         io::write_all(
             STDERR_FILENO,
-            b"echo: the line that it broke off is not answered\n",
+            b"echo: the unfinished last line is not answered\n",
         );
     }
     false

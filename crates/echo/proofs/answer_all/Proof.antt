@@ -1,4 +1,4 @@
--- `echo::answer_all` is safe: the rest lies within what was read.
+-- `echo::answer_all` is safe, and keeps the unfinished line: the rest lies within what was read, behind the last newline.
 use mathlib.Core.Path.{_≡_, sym, subst}
 use Prim.Native.Nat.{_≤_}
 use native.Mathlib.Omega.{arith}
@@ -67,9 +67,12 @@ returns-2 : tie.Need-returns-2
 returns-2 c =
     let given = c .before .before .before .before .before .before .before .before .before .before .before .before .before .before .before .args in
     let found = rest (c .before .before .before .before .before) in
-    let kept = front-kept (given .input .now) (c .before .before .keep .last .0) (given .end) (c .before .before .before .before .before .before .from .given .0 .0)
-    (c .before .before .before .before .worth-keeping .result) mostHeld (omega arith) (found .0) (found .1)
-    (c .before .before .before .before .worth-keeping .ensures) (c .before .before .keep .ensures) in
+    let from = c .before .before .before .before .before .before .from .given .0 .0 in
+    let worth = c .before .before .before .before .worth-keeping in
+    let moving = c .before .before .keep in
+    let kept =
+    front-kept (given .input .now) (moving .last .0) (given .end) from (worth .result) mostHeld (omega arith) (found .0) (found .1) (worth .ensures)
+    (moving .ensures) in
     (omega arith, kept)
 
 pub answer-all-spec : {M : Type 1} → statement M

@@ -14,7 +14,8 @@ use Rattle.echo.proofs.answer_lines.Tie as tie
 
 abbrev Inv-loop : tie.InvT-loop
 Inv-loop text out₀ from₀ filled₀ end₀ out from filled end =
-    (length out ≡ length out₀) × (filled + longestReply ≤ length out₀) × (from ≤ end) × (end ≤ length text) × (end ≡ lineEnd text from) × (unfinished (drop from text) ≡ unfinished text)
+    (length out ≡ length out₀) × (filled + longestReply ≤ length out₀) × (from ≤ end) × (end ≤ length text)
+    × (end ≡ lineEnd text from) × (unfinished (drop from text) ≡ unfinished text)
 
 abbrev μ-loop : tie.MeasureT-loop
 μ-loop text out₀ from₀ filled₀ end₀ out from filled end = length text - end
@@ -63,9 +64,10 @@ loop-again c =
     let answered = c .before .before .before .before .before .before .answer in
     let at = c .before .before .before .before .before .before .before .before .before .before .loop in
     let text = c .before .before .before .before .before .before .before .before .before .before .before .before .before .before .args .text .now in
-    let fits : RoomIn (length (answered .last .1 .0)) (Filled (c .before .before .left .given .0 .0)) = subst (RoomIn (length (answered .last .1 .0))) (c .before .before .left .given .1) (answered .ensures) in
+    let left = c .before .before .left .given in
+    let fits : RoomIn (length (answered .last .1 .0)) (Filled (left .0 .0)) = subst (RoomIn _) (left .1) (answered .ensures .0) in
     let kept : length (answered .last .1 .0) ≡ length (at .out) = search needs in
-    let more : unfinished (drop (at .end + 1) text) ≡ unfinished (drop (at .from) text) = rest-more text (at .from) (at .end) (omega arith) (at .inv .4) (omega arith) in
+    let more = rest-more text (at .from) (at .end) (omega arith) (at .inv .4) (omega arith) in
     (kept ∙ at .inv .0, omega arith, omega arith, omega arith, search needs, more ∙ at .inv .5)
 
 slice-reshare-prefix-send : tie.Need-slice-reshare-prefix-send Inv-loop μ-loop

@@ -39,8 +39,9 @@ loop-again : tie.Need-loop-again Inv-loop μ-loop
 loop-again c =
     let quiet = sym (c .before .newline-in .ensures) ∙ c .if1 .left in
     let given = c .before .before .before .before .before .args in
-    let i = c .before .before .before .loop .i in
-    (search needs, search needs, quiet-join (given .from) i (i + 8) (given .text .now) (omega arith) (omega arith) (omega arith) (c .before .before .before .loop .inv .2) quiet)
+    let at = c .before .before .before .loop in
+    let on = quiet-join (given .from) (at .i) (at .i + 8) (given .text .now) (omega arith) (omega arith) (omega arith) (at .inv .2) quiet in
+    (search needs, search needs, on)
 
 returns-2 : tie.Need-returns-2 Inv-loop μ-loop
 returns-2 c = search needs
