@@ -121,7 +121,7 @@ fn interrupted(held: usize) -> bool {
     if 0 < held {
         io::write_all(
             STDERR_FILENO,
-            b"desk: the line that it broke off is not carried out\n",
+            b"desk: the unfinished last line is not carried out\n",
         );
     }
     false
