@@ -3,6 +3,7 @@ mod orders;
 mod replies;
 mod words;
 
+use libc::STDERR_FILENO;
 use libc::STDIN_FILENO;
 use libc::STDOUT_FILENO;
 use orders::reply_to;
@@ -17,6 +18,15 @@ enum Input {
     Failed,
 }
 
+// Writes a reply out. Where that fails it is told, with the reason.
+fn send(reply: &[u8]) -> bool {
+    if io::write_all(STDOUT_FILENO, reply) {
+        return true;
+    }
+    os::fail(b"desk: standard output could not be written");
+    false
+}
+
 // Answers a line, by way of `out`.
 fn say_by(
     line: &[u8],
@@ -28,7 +38,7 @@ fn say_by(
     requires { ⌜ longest + 1 ≤ length (now out) ⌝ }
 {
     let count = reply_to(line, head, groups, pairs, out);
-    io::write_all(STDOUT_FILENO, &out[..count])
+    send(&out[..count])
 }
 
 // Answers a line: there is room for the longest reply.
@@ -101,7 +111,23 @@ fn finish(
     }
 }
 
-// Reads once, and takes what came; at the end of the input answers the last line.
+// Whether a read that failed was only interrupted. Any other failure is told, with the reason, and so is an unfinished line: nothing says that
+// it was to end there, so it is no order.
+fn interrupted(held: usize) -> bool {
+    if os::errno() == libc::EINTR {
+        return true;
+    }
+    os::fail(b"desk: standard input could not be read");
+    if 0 < held {
+        io::write_all(
+            STDERR_FILENO,
+            b"desk: the unfinished last line is not carried out\n",
+        );
+    }
+    false
+}
+
+// Reads once, and takes what came; at the end of the input answers the last line. An interrupted read brings nothing, and the next turn reads again.
 fn turn(
     line: &mut [u8],
     held: usize,
@@ -116,6 +142,9 @@ fn turn(
     let got = libc::read(STDIN_FILENO, &mut bytes);
     let count = io::count(got, &bytes);
     if got < 0 {
+        if interrupted(held) {
+            return Input::Held(held);
+        }
         return Input::Failed;
     }
     if count == 0 {

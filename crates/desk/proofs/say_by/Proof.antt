@@ -9,14 +9,14 @@ use Rattle.desk.proofs.say_by.Tie as tie
 reply-to-requires : tie.Need-reply-to-requires
 reply-to-requires c κs = search needs
 
-slice-reshare-prefix-write-all : tie.Need-slice-reshare-prefix-write-all
-slice-reshare-prefix-write-all c = search needs
+slice-reshare-prefix-send : tie.Need-slice-reshare-prefix-send
+slice-reshare-prefix-send c = search needs
 
-slice-aggregate-write-all : tie.Need-slice-aggregate-write-all
-slice-aggregate-write-all c = sym (length-take-le _ _ (omega arith))
+slice-aggregate-send : tie.Need-slice-aggregate-send
+slice-aggregate-send c = sym (length-take-le _ _ (omega arith))
 
-write-all-requires : tie.Need-write-all-requires
-write-all-requires c κs = search needs
+send-requires : tie.Need-send-requires
+send-requires c κs = search needs
 
 same-length : tie.Need-same-length
 same-length c = search needs
@@ -38,9 +38,9 @@ say-by-spec =
     tie.close
     (tie.spec
     reply-to-requires
-    slice-reshare-prefix-write-all
-    slice-aggregate-write-all
-    write-all-requires
+    slice-reshare-prefix-send
+    slice-aggregate-send
+    send-requires
     same-length
     same-length-2
     same-length-3

@@ -1,4 +1,7 @@
--- `echo::answer` is safe: the reply fits behind what is filled.
+-- `echo::answer` puts the reply behind what is filled, where it fits.
+use native.Mathlib.Omega.{arith}
+use Rattle.echo.specs.Reply.{replyTo}
+use Rattle.echo.proofs.Replies.{part-stored}
 use borrow.Author.Needs.{needs}
 use Rattle.echo.proofs.answer.Statement.{statement}
 use Rattle.echo.proofs.answer.Tie as tie
@@ -25,7 +28,10 @@ same-length : tie.Need-same-length
 same-length c = search needs
 
 returns : tie.Need-returns
-returns c = c .make-room .ensures
+returns c =
+    let given = c .before .before .before .before .before .before .before .before .args in
+    let answered = c .before .before .before .before .reply in
+    (c .make-room .ensures, part-stored (given .out .now) (replyTo (given .line .now)) (answered .last .1 .0) (given .filled) (omega arith) (answered .ensures .1))
 
 pub answer-spec : {M : Type 1} → statement M
 answer-spec =

@@ -1,11 +1,13 @@
--- `echo::answer_all` is safe: the rest lies within what was read.
+-- `echo::answer_all` is safe, and keeps the unfinished line: the rest lies within what was read, behind the last newline.
 use mathlib.Core.Path.{_≡_, sym, subst}
 use Prim.Native.Nat.{_≤_}
 use native.Mathlib.Omega.{arith}
-use lib.ListN.{length, take}
+use lib.ListN.{length, take, drop}
 use lib.Seq.{length-take-le}
 use Rattle.echo.specs.declared.Progress.the-variants.{Rest}
-use Rattle.echo.specs.Room.{RestIn}
+use Rattle.echo.specs.Room.{RestOf, mostHeld}
+use Rattle.echo.specs.Line.{unfinished}
+use Rattle.echo.proofs.Rest.{front-kept}
 use borrow.Author.Needs.{needs}
 use Rattle.echo.proofs.answer_all.Statement.{statement}
 use Rattle.echo.proofs.answer_all.Tie as tie
@@ -34,17 +36,20 @@ same-length-2 c = search needs
 returns : tie.Need-returns
 returns c = search needs
 
--- the rest starts within what was read
-rest : (c : tie.After-known-told) → c .before .from .given .0 .0 ≤ c .before .before .before .before .before .before .before .before .before .before .args .end
+-- the rest starts within what was read, behind its last newline
+rest : (c : tie.After-known-told)
+    → let given = c .before .before .before .before .before .before .before .before .before .before .args in
+    let from = c .before .from .given .0 .0 in
+    (from ≤ given .end) × (drop from (take (given .end) (given .input .now)) ≡ unfinished (take (given .end) (given .input .now)))
 rest c =
     let given = c .before .before .before .before .before .before .before .before .before .before .args in
     let size : length (take (given .end) (given .input .now)) ≡ given .end = length-take-le _ _ (omega arith) in
-    let within : RestIn (length (take (given .end) (given .input .now))) (Rest (c .before .from .given .0 .0)) =
-    subst (RestIn _) (c .before .from .given .1) (c .before .before .before .before .before .answer-lines .ensures) in
-    omega arith
+    let found : RestOf (take (given .end) (given .input .now)) (Rest (c .before .from .given .0 .0)) =
+    subst (RestOf _) (c .before .from .given .1) (c .before .before .before .before .before .answer-lines .ensures) in
+    (omega arith, found .1)
 
 sub-worth-keeping : tie.Need-sub-worth-keeping
-sub-worth-keeping c = rest c
+sub-worth-keeping c = rest c .0
 
 worth-keeping-requires : tie.Need-worth-keeping-requires
 worth-keeping-requires c κs = search needs
@@ -59,7 +64,16 @@ same-length-4 : tie.Need-same-length-4
 same-length-4 c = search needs
 
 returns-2 : tie.Need-returns-2
-returns-2 c = search needs
+returns-2 c =
+    let given = c .before .before .before .before .before .before .before .before .before .before .before .before .before .before .before .args in
+    let found = rest (c .before .before .before .before .before) in
+    let from = c .before .before .before .before .before .before .from .given .0 .0 in
+    let worth = c .before .before .before .before .worth-keeping in
+    let moving = c .before .before .keep in
+    let kept =
+    front-kept (given .input .now) (moving .last .0) (given .end) from (worth .result) mostHeld (omega arith) (found .0) (found .1) (worth .ensures)
+    (moving .ensures) in
+    (omega arith, kept)
 
 pub answer-all-spec : {M : Type 1} → statement M
 answer-all-spec =

@@ -3,14 +3,14 @@ use mathlib.Core.Path.{_≡_, subst}
 use Prim.Native.Nat.{_≤_}
 use lib.ListN.{length}
 use Rattle.echo.specs.declared.Input.the-variants.{Held}
-use Rattle.echo.specs.Room.{HeldIn}
+use Rattle.echo.specs.Room.{mostHeld, HeldIn}
 use borrow.Author.Needs.{needs}
 use Rattle.echo.proofs.echo_all.Statement.{statement}
 use Rattle.echo.proofs.echo_all.Tie as tie
 
 abbrev Inv-loop : tie.InvT-loop
 Inv-loop input₀ out₀ held₀ turns₀ input out held turns =
-    (length input ≡ length input₀) × (length out ≡ length out₀) × (held ≤ 433)
+    (length input ≡ length input₀) × (length out ≡ length out₀) × (held ≤ mostHeld)
 
 abbrev μ-loop : tie.MeasureT-loop
 μ-loop input₀ out₀ held₀ turns₀ input out held turns = turns
@@ -41,7 +41,8 @@ loop-less c = search needs
 
 loop-again : tie.Need-loop-again Inv-loop μ-loop
 loop-again c =
-    let held : HeldIn 433 (Held (c .before .count .given .0 .0)) = subst (HeldIn 433) (c .before .count .given .1) (c .before .before .before .before .before .before .before .turn .ensures) in
+    let told = c .before .count .given in
+    let held : HeldIn mostHeld (Held (told .0 .0)) = subst (HeldIn _) (told .1) (c .before .before .before .before .before .before .before .turn .ensures) in
     (search needs, search needs, held)
 
 same-length-3 : tie.Need-same-length-3 Inv-loop μ-loop

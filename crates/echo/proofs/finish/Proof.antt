@@ -12,14 +12,14 @@ slice-aggregate-reply c = sym (length-take-le _ _ (omega arith))
 reply-requires : tie.Need-reply-requires
 reply-requires c κs = search needs
 
-slice-reshare-prefix-write-all : tie.Need-slice-reshare-prefix-write-all
-slice-reshare-prefix-write-all c = search needs
+slice-reshare-prefix-send : tie.Need-slice-reshare-prefix-send
+slice-reshare-prefix-send c = search needs
 
-slice-aggregate-write-all : tie.Need-slice-aggregate-write-all
-slice-aggregate-write-all c = sym (length-take-le _ _ (omega arith))
+slice-aggregate-send : tie.Need-slice-aggregate-send
+slice-aggregate-send c = sym (length-take-le _ _ (omega arith))
 
-write-all-requires : tie.Need-write-all-requires
-write-all-requires c κs = search needs
+send-requires : tie.Need-send-requires
+send-requires c κs = search needs
 
 same-length : tie.Need-same-length
 same-length c = search needs
@@ -36,9 +36,9 @@ finish-spec =
     (tie.spec
     slice-aggregate-reply
     reply-requires
-    slice-reshare-prefix-write-all
-    slice-aggregate-write-all
-    write-all-requires
+    slice-reshare-prefix-send
+    slice-aggregate-send
+    send-requires
     same-length
     returns
     returns-2)

@@ -12,11 +12,11 @@ sub-if1 c = search needs
 returns : tie.Need-returns
 returns c = search needs
 
-slice-aggregate-write-all : tie.Need-slice-aggregate-write-all
-slice-aggregate-write-all c = sym (length-take-le _ _ (omega arith))
+slice-aggregate-send : tie.Need-slice-aggregate-send
+slice-aggregate-send c = sym (length-take-le _ _ (omega arith))
 
-write-all-requires : tie.Need-write-all-requires
-write-all-requires c κs = search needs
+send-requires : tie.Need-send-requires
+send-requires c κs = search needs
 
 returns-2 : tie.Need-returns-2
 returns-2 c = search needs
@@ -27,4 +27,4 @@ returns-3 c = search needs
 pub make-room-spec : {M : Type 1} → statement M
 make-room-spec =
     tie.close
-    (tie.spec sub-if1 returns slice-aggregate-write-all write-all-requires returns-2 returns-3)
+    (tie.spec sub-if1 returns slice-aggregate-send send-requires returns-2 returns-3)

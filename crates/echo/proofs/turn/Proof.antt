@@ -17,7 +17,8 @@ enum-known-end c = search needs
 answer-all-requires : tie.Need-answer-all-requires
 answer-all-requires c κs =
     let read = c .before .before .before .before .before .before .before .read-more in
-    let held : HeldIn (length (read .last .0)) (Held (c .before .before .before .end .given .0 .0)) = subst (HeldIn (length (read .last .0))) (c .before .before .before .end .given .1) (read .ensures) in
+    let end = c .before .before .before .end .given in
+    let held : HeldIn (length (read .last .0)) (Held (end .0 .0)) = subst (HeldIn _) (end .1) (read .ensures) in
     (held, omega arith)
 
 enum-told : tie.Need-enum-told
