@@ -7,7 +7,7 @@ use Prim.Native.Nat.{ℕ}
 use native.Mathlib.Omega.{arith}
 use lib.ListN.{length}
 use Rattle.refusal.specs.declared.Refusal.{Refusal}
-use Rattle.frame.specs.declared.Record.{Record}
+use Rattle.layout.specs.declared.Record.{Record}
 use Rattle.rules.specs.Lists.{mem}
 use Rattle.rules.specs.Number.{numbers}
 use Rattle.rules.specs.Order.{Delete, define, delete, defineGroups}

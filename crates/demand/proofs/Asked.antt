@@ -8,7 +8,7 @@ use lib.ListN.{length, replicate, length-replicate}
 use denote.Ref.{RefT}
 use Rattle.refusal.specs.declared.Refusal.{Refusal}
 use Rattle.refusal.specs.declared.Refusal.the-variants.{NotWritten}
-use Rattle.frame.specs.declared.Record.{Record}
+use Rattle.layout.specs.declared.Record.{Record}
 use Rattle.rules.specs.Entries.{alter}
 use Rattle.rules.specs.Effect.{effect}
 use Rattle.rules.specs.Ledger.{Pair, empty, refused}

@@ -5,7 +5,7 @@ use mathlib.Core.List.{List, map}
 use mathlib.Core.Option.{none}
 use Prim.Native.Nat.{ℕ, _≤_}
 use lib.ListN.{length}
-use Rattle.frame.specs.declared.Record.{Record}
+use Rattle.layout.specs.declared.Record.{Record}
 use Rattle.refusal.specs.declared.Refusal.the-variants.{NotWritten}
 use Rattle.rules.specs.Parameters.{Parameters}
 use Rattle.rules.specs.Replies as replies

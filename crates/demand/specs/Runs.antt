@@ -3,7 +3,7 @@
 use mathlib.Core.Bool.{Bool}
 use Prim.Native.Nat.{ℕ}
 use lib.ListN.{length}
-use Rattle.frame.specs.declared.Record.{Record}
+use Rattle.layout.specs.declared.Record.{Record}
 use Rattle.rules.specs.Order.{tick}
 use Rattle.rules.specs.History.{History, start, _then_}
 use Rattle.store.specs.Storage.{Contents}

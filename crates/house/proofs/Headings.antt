@@ -9,7 +9,7 @@ use lib.Seq.{sets, length-sets, sets-eq, take-all, take-at, drop-append-le}
 use native.Mathlib.Omega.{arith}
 use borrow.Author.Tests.{le-leb, lt-leb, eq-eqb, ne-eqb, eqb-true}
 use Rattle.bits.specs.Bits.{bytesFor}
-use Rattle.frame.specs.declared.Kind.{Kind}
+use Rattle.layout.specs.declared.Kind.{Kind}
 use Rattle.house.specs.declared.Line.{Line}
 use Rattle.house.specs.declared.Line.the-variants.{Frame, Bad}
 use Rattle.house.specs.Hex.{allDigits, bytesFrom}

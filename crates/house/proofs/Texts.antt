@@ -9,7 +9,7 @@ use lib.ListN.{length, getD, set, take, drop, length-take}
 use lib.Seq.{sets, drop-cons, getD-take, take-nil}
 use borrow.Author.Tests.{lt-ltb, le-ltb}
 use Rattle.bits.specs.Bits.{bytesFor}
-use Rattle.frame.specs.declared.Kind.{Kind}
+use Rattle.layout.specs.declared.Kind.{Kind}
 use Rattle.house.specs.Kinds.{kindNumber}
 use Rattle.house.specs.Hex.{digitsOf}
 use Rattle.house.specs.Echo.{decimal, taken}

@@ -8,13 +8,13 @@ use Rattle.bits.specs.Bits.{bytesFor}
 use Rattle.refusal.specs.Number.{numberOf}
 use Rattle.refusal.specs.declared.Refusal.{Refusal}
 use Rattle.refusal.specs.declared.Refusal.the-variants.{BadLine}
-use Rattle.frame.specs.Frame.{readingOf, writtenOf, outputOf}
-use Rattle.frame.specs.declared.Kind.{Kind}
-use Rattle.frame.specs.declared.Reading.{Reading}
-use Rattle.frame.specs.declared.Verdict.{Verdict}
-use Rattle.frame.specs.declared.Verdict.the-variants.{Frame as Read, Refused as NotRead}
-use Rattle.frame.specs.declared.Written.{Written}
-use Rattle.frame.specs.declared.Written.the-variants.{Bits, Refused as NotWritten}
+use Rattle.layout.specs.Frame.{readingOf, writtenOf, outputOf}
+use Rattle.layout.specs.declared.Kind.{Kind}
+use Rattle.layout.specs.declared.Reading.{Reading}
+use Rattle.layout.specs.declared.Verdict.{Verdict}
+use Rattle.layout.specs.declared.Verdict.the-variants.{Frame as Read, Refused as NotRead}
+use Rattle.layout.specs.declared.Written.{Written}
+use Rattle.layout.specs.declared.Written.the-variants.{Bits, Refused as NotWritten}
 use Rattle.house.specs.declared.Line.{Line}
 use Rattle.house.specs.declared.Line.the-variants.{Frame, Bad}
 use Rattle.house.specs.Hex.{bytesFrom, digitsOf}

@@ -5,7 +5,7 @@ use Prim.Native.Nat.{ℕ, _+_, _*_}
 use lib.Dec.{leb, eqb}
 use lib.ListN.{length, getD, drop}
 use Rattle.bits.specs.Bits.{bytesFor}
-use Rattle.frame.specs.declared.Kind.{Kind}
+use Rattle.layout.specs.declared.Kind.{Kind}
 use Rattle.house.specs.declared.Line.{Line}
 use Rattle.house.specs.declared.Line.the-variants.{Frame, Bad}
 use Rattle.house.specs.Hex.{allDigits, bytesFrom}

@@ -19,7 +19,7 @@ ghost use Rattle.house.specs.Kinds.{kindNumber, kinds};
 ghost use Rattle.house.specs.Heading.{named, headed, headingOf, splitOf};
 ghost use Rattle.house.specs.Unpacked.{Unpacked};
 ghost use Rattle.bits.specs.Bits.{bytesFor};
-ghost use Rattle.frame.specs.Frame.{readingOf};
+ghost use Rattle.layout.specs.Frame.{readingOf};
 ghost use Rattle.house.specs.Echo.{refused, taken, anew, answerTo, echoWithin};
 ghost use Rattle.house.specs.Sent.{Sent};
 

@@ -8,8 +8,8 @@ use lib.Dec.{eqb, ltb}
 use lib.ListN.{length, getD}
 use Rattle.refusal.specs.declared.Refusal.{Refusal}
 use Rattle.refusal.specs.declared.Refusal.the-variants.{BadOrder, FormNotTaken, NotOwner, Full, NoRoom}
-use Rattle.frame.specs.Frame.{judgedOf}
-use Rattle.frame.specs.declared.Kind.the-variants as kind
+use Rattle.layout.specs.Frame.{judgedOf}
+use Rattle.layout.specs.declared.Kind.the-variants as kind
 use Rattle.rules.specs.Lists.{keep, present, join, sum, any, once}
 use Rattle.rules.specs.Number.{wide, untaken, numbersIn}
 use Rattle.rules.specs.Order.{Step, define}

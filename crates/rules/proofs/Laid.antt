@@ -7,8 +7,8 @@ use lib.Dec.{ltb, leb}
 use lib.ListN.{length, getD, take}
 use native.Mathlib.Omega.{arith}
 use borrow.Author.Tests.{ltb-true, leb-true}
-use Rattle.frame.specs.Row.{Row, all, present, bare, there, nothing}
-use Rattle.frame.specs.Write.{held, lay, good, vals}
+use Rattle.layout.specs.Row.{Row, all, present, bare, there, nothing}
+use Rattle.layout.specs.Write.{held, lay, good, vals}
 use Rattle.rules.proofs.Tests.{and-l, and-r}
 
 -- a row that is there, with the record's value and the value laid

@@ -7,12 +7,12 @@ use lib.Dec.{leb}
 use lib.ListN.{length, getD, drop}
 use lib.Seq.{getD-drop}
 use native.Mathlib.Omega.{arith}
-use Rattle.frame.specs.declared.Kind.the-variants as kind
-use Rattle.frame.specs.declared.Items.the-variants.{Numbers, Letters}
-use Rattle.frame.specs.Row.{Condition, is, atLeast, Row, nothing}
-use Rattle.frame.specs.Shape.{number, choice, least, rowsOf, repeated, span, spans, unrolled}
-use Rattle.frame.specs.Table.{define}
-use Rattle.frame.specs.Frame.{rows}
+use Rattle.layout.specs.declared.Kind.the-variants as kind
+use Rattle.layout.specs.declared.Items.the-variants.{Numbers, Letters}
+use Rattle.layout.specs.Row.{Condition, is, atLeast, Row, nothing}
+use Rattle.layout.specs.Shape.{number, choice, least, rowsOf, repeated, span, spans, unrolled}
+use Rattle.layout.specs.Table.{define}
+use Rattle.layout.specs.Frame.{rows}
 use Rattle.rules.specs.Recorded.{groupGiven, groupNumbers, optionsFollow, setReference, ownersIncluded, ownerNumbers, acknowledgedCall, broadcast, letterCount, letters, assignment, radioNumbers, classOfUsage, attachmentLifetime, temporaryAssignment}
 
 abbrev pub table : List Row

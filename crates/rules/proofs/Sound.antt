@@ -9,12 +9,12 @@ use lib.ListN.{length, getD, take, drop, length-drop}
 use lib.Seq.{getD-take, getD-drop, length-take-le}
 use native.Mathlib.Omega.{arith}
 use borrow.Author.Tests.{eqb-true, eqb-false, ltb-true, eq-eqb, ne-eqb, lt-leb, le-leb, lt-ltb, le-ltb}
-use Rattle.frame.specs.declared.Kind.the-variants as kind
-use Rattle.frame.specs.declared.Items.the-variants.{Numbers}
-use Rattle.frame.specs.Row.{Condition, is, atLeast, Row, all, present}
-use Rattle.frame.specs.Write.{lay, good, goodButGroup, vals}
-use Rattle.frame.specs.Shape.{number, choice, least}
-use Rattle.frame.specs.Frame.{judgedOf}
+use Rattle.layout.specs.declared.Kind.the-variants as kind
+use Rattle.layout.specs.declared.Items.the-variants.{Numbers}
+use Rattle.layout.specs.Row.{Condition, is, atLeast, Row, all, present}
+use Rattle.layout.specs.Write.{lay, good, goodButGroup, vals}
+use Rattle.layout.specs.Shape.{number, choice, least}
+use Rattle.layout.specs.Frame.{judgedOf}
 use Rattle.rules.specs.Lists.{any}
 use Rattle.rules.specs.Number.{count, used, wide, badIdentity, badList}
 use Rattle.rules.specs.Parameters.{tooLarge, badName, badParameters}

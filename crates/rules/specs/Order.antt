@@ -3,7 +3,7 @@ use Prim.Native.Nat.{ℕ}
 use mathlib.Core.Bool.{Bool, true, cond, _&&_, _||_}
 use mathlib.Core.List.{List, _∷_}
 use mathlib.Core.Option.{Option}
-use Rattle.frame.specs.declared.Judged.{Judged}
+use Rattle.layout.specs.declared.Judged.{Judged}
 use Rattle.rules.specs.Lists.{present, mem, once}
 use Rattle.rules.specs.Number.{Numbers, numbers, numbersIn}
 use Rattle.rules.specs.Parameters.{Parameters}

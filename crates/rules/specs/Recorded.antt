@@ -5,8 +5,8 @@ use mathlib.Core.List.{List, [], _∷_}
 use mathlib.Core.Option.{Option, none, some}
 use lib.Dec.{eqb}
 use lib.ListN.{getD, take, drop}
-use Rattle.frame.specs.Frame.{judgedOf}
-use Rattle.frame.specs.declared.Kind.the-variants as kind
+use Rattle.layout.specs.Frame.{judgedOf}
+use Rattle.layout.specs.declared.Kind.the-variants as kind
 use Rattle.rules.specs.Number.{Identity, Numbers}
 use Rattle.rules.specs.Parameters.{Parameters}
 use Rattle.rules.specs.Order.{Define}

@@ -9,8 +9,8 @@ use lib.ListN.{length}
 use Rattle.refusal.specs.Number.{numberOf}
 use Rattle.refusal.specs.declared.Refusal.{Refusal}
 use Rattle.refusal.specs.declared.Refusal.the-variants.{BadOrder, FormNotTaken, NoSuchGroup, NotOwner, NotOpen, NothingToDo, Full, NoRoom}
-use Rattle.frame.specs.declared.Judged.{Judged}
-use Rattle.frame.specs.declared.Judged.the-variants.{Writable, Refused}
+use Rattle.layout.specs.declared.Judged.{Judged}
+use Rattle.layout.specs.declared.Judged.the-variants.{Writable, Refused}
 use Rattle.rules.specs.Lists.{any, present}
 use Rattle.rules.specs.Number.{wide, badList, untaken}
 use Rattle.rules.specs.Parameters.{badParameters}

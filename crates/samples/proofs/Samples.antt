@@ -2,12 +2,12 @@
 -- Assumes nothing.
 use lib.Dec.{T}
 use Rattle.bits.specs.Bits.{digits, value, bitsOf, pack, bytesOf}
-use Rattle.frame.specs.Row.{all, present}
-use Rattle.frame.specs.Read.{readRows}
-use Rattle.frame.specs.Write.{lay, vals, emit}
-use Rattle.frame.specs.Shape.{repeated, rowsOf, span, unrolled, spans}
-use Rattle.frame.specs.Table.{define, defineAck, cancel, cancelAck}
-use Rattle.frame.specs.Frame.{rows, head, read, readBytes, asReading, readingOf, write, judgedOf, writtenOf, outputOf}
+use Rattle.layout.specs.Row.{all, present}
+use Rattle.layout.specs.Read.{readRows}
+use Rattle.layout.specs.Write.{lay, vals, emit}
+use Rattle.layout.specs.Shape.{repeated, rowsOf, span, unrolled, spans}
+use Rattle.layout.specs.Table.{define, defineAck, cancel, cancelAck}
+use Rattle.layout.specs.Frame.{rows, head, read, readBytes, asReading, readingOf, write, judgedOf, writtenOf, outputOf}
 use Rattle.rules.specs.Number.{numbers}
 use Rattle.rules.specs.Recorded.{numbersAt, parametersIn, defineOf}
 use Rattle.samples.specs.Samples.{samples, passes}

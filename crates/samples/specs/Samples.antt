@@ -7,14 +7,14 @@ use mathlib.Core.Option.{none}
 use lib.Dec.{eqb}
 use lib.ListN.{length, replicate}
 use Rattle.refusal.specs.Number.{numberOf}
-use Rattle.frame.specs.declared.Kind.{Kind}
-use Rattle.frame.specs.declared.Kind.the-variants.{Define, DefineAck, Cancel, CancelAck}
-use Rattle.frame.specs.declared.Verdict.{Verdict}
-use Rattle.frame.specs.declared.Verdict.the-variants as verdict
-use Rattle.frame.specs.declared.Written.{Written}
-use Rattle.frame.specs.declared.Written.the-variants as written
-use Rattle.frame.specs.Shape.{Yes, No}
-use Rattle.frame.specs.Frame.{places, readingOf, writtenOf, outputOf}
+use Rattle.layout.specs.declared.Kind.{Kind}
+use Rattle.layout.specs.declared.Kind.the-variants.{Define, DefineAck, Cancel, CancelAck}
+use Rattle.layout.specs.declared.Verdict.{Verdict}
+use Rattle.layout.specs.declared.Verdict.the-variants as verdict
+use Rattle.layout.specs.declared.Written.{Written}
+use Rattle.layout.specs.declared.Written.the-variants as written
+use Rattle.layout.specs.Shape.{Yes, No}
+use Rattle.layout.specs.Frame.{places, readingOf, writtenOf, outputOf}
 use Rattle.rules.specs.Order.{Step, define, delete, answer, tick}
 use Rattle.rules.specs.Recorded.{setReference, assignment, numbersAt, defineOf}
 use Rattle.rules.specs.Refusals.{replyNumber}
