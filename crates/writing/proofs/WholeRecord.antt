@@ -18,7 +18,7 @@ use Rattle.writing.specs.declared.Walked.the-variants as walked
 use Rattle.layout.specs.Row.{Row, all}
 use Rattle.layout.specs.Shape.{rowsOf, span, conditionsOf, unrolled}
 use Rattle.layout.specs.Table.{tableOf}
-use Rattle.layout.specs.Frame.{rows, laid}
+use Rattle.layout.specs.Frame.{rows, places, headBits, laid}
 use Rattle.layout.specs.Write.{Laid, lay, good, goodButGroup, vals, emit}
 use Rattle.table.specs.Lines.{past}
 use Rattle.table.specs.Sound.{Clear}
@@ -36,7 +36,7 @@ good-coded l e = all-weaker good goodButGroup (λ x t. rw t) l e
 pub record Wrote (es : List Element) (s out₀ vs out : List ℕ) (grouped : Bool) (at p k : ℕ) : Type 0 where
   pub done : List Laid
   pub whole : lay (unrolled es 0) [] s ≡ done ++ lay (unrolled (drop k es) p) (take p vs) (drop p s)
-  pub lies : Lies done p 10 at 0 (replicate places 0) vs out₀ out
+  pub lies : Lies done p headBits at 0 (replicate places 0) vs out₀ out
   pub fine : all good done ≡ grouped
   pub coded : all goodButGroup done ≡ true
   pub placed : Placed es p k
@@ -44,9 +44,9 @@ pub record Wrote (es : List Element) (s out₀ vs out : List ℕ) (grouped : Boo
   pub passed : k ≤ length es
 
 module _ (kind : Kind) (es : List Element) (s out : List ℕ) (same : es ≡ tableOf kind) where
-  pub wrote-none : Wrote es s out (replicate places 0) out true 10 0 0
+  pub wrote-none : Wrote es s out (replicate places 0) out true headBits 0 0
   wrote-none =
-      record { done = []; whole = refl; lies = lies-none 10 0 (replicate places 0) out; fine = refl; coded = refl; placed = placed-none kind es same; clear = λ q h. zeros places q; passed = omega arith }
+      record { done = []; whole = refl; lies = lies-none headBits 0 (replicate places 0) out; fine = refl; coded = refl; placed = placed-none kind es same; clear = λ q h. zeros places q; passed = omega arith }
     where
       zeros : (n q : ℕ) → getD {A = ℕ} (replicate n 0) q 0 ≡ 0
       zeros zero q = refl
@@ -86,8 +86,8 @@ module _ (es : List Element) (s out₀ vs vs′ out out′ : List ℕ) (grouped 
             ∙ ap₂ (λ (a b : List ℕ). now .done ++ here ++ lay later a b) (sym (f .front)) (drop-drop n p s)
             ∙ ap₂ (λ (x y : ℕ). now .done ++ here ++ lay (unrolled (drop (k + 1) es) (p + x)) (take (p + y) vs′) (drop (p + y) s)) (sym d) m;
         lies =
-            subst (λ (x : ℕ). Lies (now .done ++ here) (p + x) 10 at′ 0 (replicate places 0) vs′ out₀ out′) m
-            (lies-join (now .done) here p n 10 at at′ 0 (replicate places 0) vs vs′ out₀ out out′ (now .lies) (subst (λ (x : ℕ). Lies here n at at′ x vs vs′ out out′) (sym (zero-add p)) f));
+            subst (λ (x : ℕ). Lies (now .done ++ here) (p + x) headBits at′ 0 (replicate places 0) vs′ out₀ out′) m
+            (lies-join (now .done) here p n headBits at at′ 0 (replicate places 0) vs vs′ out₀ out out′ (now .lies) (subst (λ (x : ℕ). Lies here n at at′ x vs vs′ out out′) (sym (zero-add p)) f));
         fine = all-append good (now .done) here ∙ ap₂ _&&_ (now .fine) g;
         coded = all-append goodButGroup (now .done) here ∙ ap₂ _&&_ (now .coded) h;
         placed = subst (λ (x : ℕ). Placed es (p + x) (k + 1)) (sym d) (placed-more es p k e (now .placed) inside is);
@@ -134,9 +134,9 @@ module _ (es : List Element) (s out₀ vs out : List ℕ) (grouped : Bool) (at p
       record {
         outcome = (
           ap (all good) last ∙ now .fine ∙ g,
-          now .lies .on ∙ ap (λ (l : List Laid). 10 + length (emit l)) (sym last),
+          now .lies .on ∙ ap (λ (l : List Laid). headBits + length (emit l)) (sym last),
           omega (arith, now .lies .few, now .placed .room),
-          subst (λ (l : List Laid). Over out₀ out 10 (emit l)) (sym last) (now .lies .over),
+          subst (λ (l : List Laid). Over out₀ out headBits (emit l)) (sym last) (now .lies .over),
         );
       }
 

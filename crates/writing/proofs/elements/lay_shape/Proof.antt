@@ -1,215 +1,202 @@
--- `writing::elements::lay_shape` meets its contract, shape by shape.
--- Assumes nothing.
-use mathlib.Core.Path.{refl, ap}
-use native.Mathlib.Omega.{arith}
-use Rattle.layout.specs.Shape.{span}
-use Rattle.writing.proofs.LayLaws.{laying, kept, ready-later}
-use Rattle.writing.proofs.LayShapes.{puts-told, puts-missing, puts-given, puts-nothing, puts-something}
-use Rattle.table.proofs.ShapeLaws.{sound-number, sound-choice, sound-missing, list-room, span-some, shape-number, shape-choice, shape-ending, shape-identity, shape-list}
 use borrow.Author.Needs.{needs}
 use Rattle.writing.proofs.elements.lay_shape.Statement.{statement}
 use Rattle.writing.proofs.elements.lay_shape.Tie as tie
+use Rattle.writing.proofs.elements.lay_shape.Reads as reads
+use Rattle.writing.proofs.elements.lay_shape.Lts as lts
+use Rattle.table.proofs.fields.choice.Reads as choice-reads
+use Rattle.table.proofs.fields.number.Reads as number-reads
+use Rattle.table.proofs.tests.holds.Reads as holds-reads
+use Rattle.table.proofs.tests.nothing_since.Reads as nothing-since-reads
+use Rattle.writing.proofs.elements.told.Reads as told-reads
+use Rattle.writing.proofs.items.lay_field.Reads as lay-field-reads
+use Rattle.writing.proofs.items.lay_identity.Reads as lay-identity-reads
+use Rattle.writing.proofs.items.lay_list.Reads as lay-list-reads
 
+-- src/elements.rt:55:23
 enum-known-shape : tie.Need-enum-known-shape
 enum-known-shape c = search needs
 
-wide-requires : tie.Need-wide-requires
-wide-requires c κs = search needs
-
+-- src/elements.rt:55:75
 number-requires : tie.Need-number-requires
-number-requires c κs =
-    let s = c .before .before .before .before .before .before .before .before .before in
-    let f = sound-number (s .args .shape) (s .args .place) _ (c .before .before .before .before .shape .given .1) (s .pre .1) in
-    (omega (arith, c .wide .ensures), omega (arith, c .wide .ensures))
+number-requires c κs = search needs
 
+-- src/elements.rt:55:34
 lay-field-requires : tie.Need-lay-field-requires
-lay-field-requires c κs =
-    let s = c .before .before .before .before .before .before .before .before .before .before in
-    (ready-later _ _ _ (s .args .place) (s .args .place) (span (s .args .shape)) 1 (s .pre .0) (omega arith) (omega (arith, span-some (s .args .shape))), c .number .ensures .1)
+lay-field-requires c κs = ?h1
 
+-- src/elements.rt:55:29
 told-requires : tie.Need-told-requires
 told-requires c κs = search needs
 
+-- src/elements.rt:56:23
 enum-known-shape-2 : tie.Need-enum-known-shape-2
 enum-known-shape-2 c = search needs
 
-wide-requires-2 : tie.Need-wide-requires-2
-wide-requires-2 c κs = search needs
-
+-- src/elements.rt:57:59
 choice-requires : tie.Need-choice-requires
-choice-requires c κs =
-    let s = c .before .before .before .before .before .before .before .before .before in
-    let f = sound-choice (s .args .shape) (s .args .place) _ _ (c .before .before .before .before .shape2 .given .1) (s .pre .1) in
-    (omega (arith, c .wide2 .ensures), omega (arith, c .wide2 .ensures))
+choice-requires c κs = search needs
 
+-- src/elements.rt:57:18
 lay-field-requires-2 : tie.Need-lay-field-requires-2
-lay-field-requires-2 c κs =
-    let s = c .before .before .before .before .before .before .before .before .before .before in
-    (ready-later _ _ _ (s .args .place) (s .args .place) (span (s .args .shape)) 1 (s .pre .0) (omega arith) (omega (arith, span-some (s .args .shape))), c .choice .ensures .1)
+lay-field-requires-2 c κs = ?h2
 
+-- src/elements.rt:57:13
 told-requires-2 : tie.Need-told-requires-2
 told-requires-2 c κs = search needs
 
+-- src/elements.rt:59:54
 enum-told : tie.Need-enum-told
 enum-told c = search needs
 
+-- src/elements.rt:59:33
 lay-identity-requires : tie.Need-lay-identity-requires
-unfolding span
-lay-identity-requires c κs =
-    let s = c .before .before .before .before .before .before .before in
-    ready-later _ _ _ (s .args .place) (s .args .place) (span (s .args .shape)) 4 (s .pre .0) (omega arith) (omega (arith, ap span (c .before .before .enum-told .given .1)))
+lay-identity-requires c κs = ?h3
 
+-- src/elements.rt:59:28
 told-requires-3 : tie.Need-told-requires-3
 told-requires-3 c κs = search needs
 
+-- src/elements.rt:60:21
 enum-known-shape-3 : tie.Need-enum-known-shape-3
 enum-known-shape-3 c = search needs
 
+-- src/elements.rt:60:36
 lay-list-requires : tie.Need-lay-list-requires
-lay-list-requires c κs =
-    let s = c .before .before .before .before .before .before .before .before in
-    ready-later _ _ _ (s .args .place) (s .args .place) (span (s .args .shape)) _ (s .pre .0) (omega arith) (omega (arith, list-room (s .args .shape) _ (c .before .before .before .shape3 .given .1)))
+lay-list-requires c κs = ?h4
 
+-- src/elements.rt:60:31
 told-requires-4 : tie.Need-told-requires-4
 told-requires-4 c κs = search needs
 
+-- src/elements.rt:61:49
 enum-told-2 : tie.Need-enum-told-2
 enum-told-2 c = search needs
 
+-- src/elements.rt:61:31
 lay-field-requires-3 : tie.Need-lay-field-requires-3
-lay-field-requires-3 c κs =
-    let s = c .before .before .before .before .before .before .before in (
-      ready-later _ _ _ (s .args .place) (s .args .place) (span (s .args .shape)) 1 (s .pre .0) (omega arith) (omega (arith, span-some (s .args .shape))),
-      record { some = omega arith; few = omega arith; low = omega arith; plain = refl },
-    )
+lay-field-requires-3 c κs = ?h5
 
+-- src/elements.rt:61:26
 told-requires-5 : tie.Need-told-requires-5
 told-requires-5 c κs = search needs
 
+-- src/elements.rt:62:24
 enum-known-shape-4 : tie.Need-enum-known-shape-4
 enum-known-shape-4 c = search needs
 
-wide-requires-3 : tie.Need-wide-requires-3
-wide-requires-3 c κs = search needs
+-- src/elements.rt:63:16
+holds-requires : tie.Need-holds-requires
+holds-requires c κs = search needs
 
-mul-if1 : tie.Need-mul-if1
-mul-if1 c = search needs
-
-slice-read-if1 : tie.Need-slice-read-if1
-slice-read-if1 c =
-    let s = c .before .before .before .before .before .before .before .before in
-    let before = sound-missing (s .args .shape) (s .args .place) _ (c .before .before .before .shape4 .given .1) (s .pre .1) in
-    omega (arith, c .before .wide3 .ensures, s .pre .0 .size, s .pre .0 .room)
-
+-- src/elements.rt:69:24
 enum-known-shape-5 : tie.Need-enum-known-shape-5
 enum-known-shape-5 c = search needs
 
-wide-requires-4 : tie.Need-wide-requires-4
-wide-requires-4 c κs = search needs
+-- src/elements.rt:70:16
+nothing-since-requires : tie.Need-nothing-since-requires
+nothing-since-requires c κs = search needs
 
-add-nothing-between : tie.Need-add-nothing-between
-add-nothing-between c = search needs
-
-nothing-between-requires : tie.Need-nothing-between-requires
-nothing-between-requires c κs = search needs
-
+-- src/elements.rt:43:1
 same-length : tie.Need-same-length
 same-length c = search needs
 
+-- src/elements.rt:43:1
 same-length-2 : tie.Need-same-length-2
 same-length-2 c = search needs
 
+-- src/elements.rt:43:1
 returns : tie.Need-returns
-returns c =
-    let s = c .before .before .before .before .before .before .before .before .before .before .before .before .before .before .before .before in
-    puts-told _ _ _ _ _ _ _ _ _ _ (c .told .ensures)
-    (shape-number (laying (s .args .values .now)) (s .args .shape) (s .args .at) (s .args .place) (kept (s .args .clean .now) (s .args .out .now)) (kept (c .before .before .before .before .before .lay-field .last .1 .0) (c .before .before .before .before .before .lay-field .last .1 .1 .0)) _ _ _ _ (c .before .before .before .before .before .before .before .before .before .before .before .shape .given .1) (c .before .before .before .before .before .before .before .wide .ensures) (c .before .before .before .before .before .before .number .ensures .0) (c .before .before .before .before .before .lay-field .ensures))
+returns c = ?h6
 
+-- src/elements.rt:43:1
 same-length-3 : tie.Need-same-length-3
 same-length-3 c = search needs
 
+-- src/elements.rt:43:1
 same-length-4 : tie.Need-same-length-4
 same-length-4 c = search needs
 
+-- src/elements.rt:43:1
 returns-2 : tie.Need-returns-2
-returns-2 c =
-    let s = c .before .before .before .before .before .before .before .before .before .before .before .before .before .before .before .before in
-    puts-told _ _ _ _ _ _ _ _ _ _ (c .told2 .ensures)
-    (shape-choice (laying (s .args .values .now)) (s .args .shape) (s .args .at) (s .args .place) (kept (s .args .clean .now) (s .args .out .now)) (kept (c .before .before .before .before .before .lay-field2 .last .1 .0) (c .before .before .before .before .before .lay-field2 .last .1 .1 .0)) _ _ _ _ _ (c .before .before .before .before .before .before .before .before .before .before .before .shape2 .given .1) (c .before .before .before .before .before .before .before .wide2 .ensures) (c .before .before .before .before .before .before .choice .ensures .0) (c .before .before .before .before .before .lay-field2 .ensures))
+returns-2 c = ?h7
 
+-- src/elements.rt:43:1
 same-length-5 : tie.Need-same-length-5
 same-length-5 c = search needs
 
+-- src/elements.rt:43:1
 same-length-6 : tie.Need-same-length-6
 same-length-6 c = search needs
 
+-- src/elements.rt:43:1
 returns-3 : tie.Need-returns-3
-returns-3 c =
-    let s = c .before .before .before .before .before .before .before .before .before .before .before .before .before in
-    puts-told _ _ _ _ _ _ _ _ _ _ (c .told3 .ensures)
-    (shape-identity (laying (s .args .values .now)) (s .args .shape) (s .args .at) (s .args .place) (kept (s .args .clean .now) (s .args .out .now)) (kept (c .before .before .before .before .before .lay-identity .last .1 .0) (c .before .before .before .before .before .lay-identity .last .1 .1 .0)) _ (c .before .before .before .before .before .before .before .before .enum-told .given .1) (c .before .before .before .before .before .lay-identity .ensures))
+returns-3 c = ?h8
 
+-- src/elements.rt:43:1
 same-length-7 : tie.Need-same-length-7
 same-length-7 c = search needs
 
+-- src/elements.rt:43:1
 same-length-8 : tie.Need-same-length-8
 same-length-8 c = search needs
 
+-- src/elements.rt:43:1
 returns-4 : tie.Need-returns-4
-returns-4 c =
-    let s = c .before .before .before .before .before .before .before .before .before .before .before .before .before .before in
-    puts-told _ _ _ _ _ _ _ _ _ _ (c .told4 .ensures)
-    (shape-list (laying (s .args .values .now)) (s .args .shape) (s .args .at) (s .args .place) (kept (s .args .clean .now) (s .args .out .now)) (kept (c .before .before .before .before .before .lay-list .last .1 .0) (c .before .before .before .before .before .lay-list .last .1 .1 .0)) _ _ (c .before .before .before .before .before .before .before .before .before .shape3 .given .1) (c .before .before .before .before .before .lay-list .ensures))
+returns-4 c = ?h9
 
+-- src/elements.rt:43:1
 same-length-9 : tie.Need-same-length-9
 same-length-9 c = search needs
 
+-- src/elements.rt:43:1
 same-length-10 : tie.Need-same-length-10
 same-length-10 c = search needs
 
+-- src/elements.rt:43:1
 returns-5 : tie.Need-returns-5
-returns-5 c =
-    let s = c .before .before .before .before .before .before .before .before .before .before .before .before .before in
-    puts-told _ _ _ _ _ _ _ _ _ _ (c .told5 .ensures)
-    (shape-ending (laying (s .args .values .now)) (s .args .shape) (s .args .at) (s .args .place) (kept (s .args .clean .now) (s .args .out .now)) (kept (c .before .before .before .before .before .lay-field3 .last .1 .0) (c .before .before .before .before .before .lay-field3 .last .1 .1 .0)) _ (c .before .before .before .before .before .before .before .before .enum-told2 .given .1) (c .before .before .before .before .before .lay-field3 .ensures))
+returns-5 c = ?h10
 
-returns-6 : tie.Need-returns-6
-returns-6 c =
-    let s = c .before .before .before .before .before .before .before .before .before in
-    puts-missing (s .args .shape) (s .args .values .now) (s .args .at) (s .args .place) (s .args .clean .now) (s .args .out .now) (omega (arith, s .pre .0 .size, s .pre .0 .room)) (s .pre .0 .clear) (s .pre .1) _ _ (c .before .before .before .before .shape4 .given .1) (c .before .before .wide3 .ensures) (c .if1 .taken)
-
-returns-7 : tie.Need-returns-7
-returns-7 c =
-    let s = c .before .before .before .before .before .before .before .before .before in
-    puts-given (s .args .shape) (s .args .values .now) (s .args .at) (s .args .place) (s .args .clean .now) (s .args .out .now) (omega (arith, s .pre .0 .size, s .pre .0 .room)) (s .pre .0 .clear) (s .pre .1) _ _ (c .before .before .before .before .shape4 .given .1) (c .before .before .wide3 .ensures) (c .if1 .left)
-
+-- src/elements.rt:43:1
 same-length-11 : tie.Need-same-length-11
 same-length-11 c = search needs
 
-returns-8 : tie.Need-returns-8
-returns-8 c =
-    let s = c .before .before .before .before .before .before .before .before .before .before in
-    puts-nothing (s .args .shape) (s .args .values .now) (s .args .at) (s .args .place) (s .args .clean .now) (s .args .out .now) (omega (arith, s .pre .0 .size, s .pre .0 .room)) (s .pre .0 .clear) (s .pre .1) _ _ _ (c .before .before .before .before .before .shape5 .given .1) (c .before .before .wide4 .ensures) (c .before .nothing-between .ensures) (c .if2 .taken)
+-- src/elements.rt:43:1
+returns-6 : tie.Need-returns-6
+returns-6 c = ?h11
 
+-- src/elements.rt:43:1
 same-length-12 : tie.Need-same-length-12
 same-length-12 c = search needs
 
+-- src/elements.rt:43:1
+returns-7 : tie.Need-returns-7
+returns-7 c = ?h12
+
+-- src/elements.rt:43:1
+same-length-13 : tie.Need-same-length-13
+same-length-13 c = search needs
+
+-- src/elements.rt:43:1
+returns-8 : tie.Need-returns-8
+returns-8 c = ?h13
+
+-- src/elements.rt:43:1
+same-length-14 : tie.Need-same-length-14
+same-length-14 c = search needs
+
+-- src/elements.rt:43:1
 returns-9 : tie.Need-returns-9
-returns-9 c =
-    let s = c .before .before .before .before .before .before .before .before .before .before in
-    puts-something (s .args .shape) (s .args .values .now) (s .args .at) (s .args .place) (s .args .clean .now) (s .args .out .now) (omega (arith, s .pre .0 .size, s .pre .0 .room)) (s .pre .0 .clear) (s .pre .1) _ _ _ (c .before .before .before .before .before .shape5 .given .1) (c .before .before .wide4 .ensures) (c .before .nothing-between .ensures) (c .if2 .left)
+returns-9 c = ?h14
 
 pub lay-shape-spec : {M : Type 1} → statement M
 lay-shape-spec =
     tie.close
     (tie.spec
     enum-known-shape
-    wide-requires
     number-requires
     lay-field-requires
     told-requires
     enum-known-shape-2
-    wide-requires-2
     choice-requires
     lay-field-requires-2
     told-requires-2
@@ -223,13 +210,9 @@ lay-shape-spec =
     lay-field-requires-3
     told-requires-5
     enum-known-shape-4
-    wide-requires-3
-    mul-if1
-    slice-read-if1
+    holds-requires
     enum-known-shape-5
-    wide-requires-4
-    add-nothing-between
-    nothing-between-requires
+    nothing-since-requires
     same-length
     same-length-2
     returns
@@ -245,9 +228,11 @@ lay-shape-spec =
     same-length-9
     same-length-10
     returns-5
-    returns-6
-    returns-7
     same-length-11
-    returns-8
+    returns-6
     same-length-12
+    returns-7
+    same-length-13
+    returns-8
+    same-length-14
     returns-9)

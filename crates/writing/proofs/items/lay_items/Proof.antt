@@ -6,7 +6,7 @@ use native.Mathlib.Omega.{arith}
 use Rattle.layout.specs.Shape.{times}
 use Rattle.writing.proofs.LayLaws.{laying, kept, lays-size, lays-out}
 use Rattle.writing.proofs.LayLists.{listing-ready}
-use Rattle.table.proofs.ListLaws.{Listing, listing-none, listing-more, listing-stop, times-most}
+use Rattle.table.proofs.ListLaws.{Listing, listing-none, listing-more, listing-stop}
 use borrow.Author.Needs.{needs}
 use Rattle.writing.proofs.items.lay_items.Statement.{statement}
 use Rattle.writing.proofs.items.lay_items.Tie as tie
@@ -39,7 +39,6 @@ lay-listed-requires c κs =
     let less = c .before .before .loop-test .taken in (
       listing-ready (s .args .values .now) (s .args .items) (s .args .from) (s .args .count) (s .args .clean .now) (s .args .out .now) (l .clean) (l .out) (l .at) (l .place) (l .i)
           (times (s .args .items)) (s .pre) (l .inv .0) (omega arith),
-      omega (arith, times-most (s .args .items)),
       omega (arith, l .inv .0 .place),
     )
 
