@@ -53,9 +53,7 @@ fn lay_shape(
 {
     match shape {
         Shape::Number(w) => told(lay_field(values, clean, out, at, place, number(w))),
-        Shape::Choice(w, n) => {
-            told(lay_field(values, clean, out, at, place, choice(w, n)))
-        }
+        Shape::Choice(w, n) => { told(lay_field(values, clean, out, at, place, choice(w, n))) }
         Shape::Identity => told(lay_identity(values, clean, out, at, place)),
         Shape::List(items) => told(lay_list(values, clean, out, at, place, items)),
         Shape::Ending => told(lay_field(values, clean, out, at, place, M_BIT)),

@@ -27,7 +27,11 @@ ghost use Rattle.writing.specs.Lay.{Ready, Lays};
 fn held(field: Field, v: u32) -> u32
     ensures { λ r. ⌜ r ≡ rules.held (rowFor field []) v ⌝ }
 {
-    if (field.first == 0) & (field.codes <= 1) { 0 } else { v }
+    if (field.first == 0) & (field.codes <= 1) {
+        0
+    } else {
+        v
+    }
 }
 
 // The field of a row that is there: its value kept, and its bits laid.
@@ -87,7 +91,13 @@ fn lay_form(values: &[u32], clean: &mut [u32], out: &mut [u8], at: usize, place:
 }
 
 // An identity: its form, and what the form says.
-pub fn lay_identity(values: &[u32], clean: &mut [u32], out: &mut [u8], at: usize, place: usize) -> Put
+pub fn lay_identity(
+    values: &[u32],
+    clean: &mut [u32],
+    out: &mut [u8],
+    at: usize,
+    place: usize,
+) -> Put
     requires { ⌜ Ready (now values) (now clean) at place 4 ⌝ }
     ensures { λ r. ⌜ Lays (identity [] place) (now (values .entry)) at place (now (clean .entry)) (now (clean .exit)) (now (out .entry)) (now (out .exit)) r ⌝ }
 {

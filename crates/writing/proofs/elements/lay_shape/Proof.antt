@@ -1,3 +1,14 @@
+-- `writing::elements::lay_shape` meets its contract, shape by shape.
+-- Assumes nothing.
+use mathlib.Core.Path.{refl, ap, sym, _∙_, subst}
+use mathlib.Core.List.{[]}
+use native.Mathlib.Omega.{arith}
+use Rattle.layout.specs.Shape.{span}
+use Rattle.table.specs.Fields.{rowFor, Narrow}
+use Rattle.table.proofs.FieldLaws.{number-row, number-narrow, choice-narrow}
+use Rattle.table.proofs.ShapeLaws.{sound-number, sound-choice, list-room, span-some, shape-number, shape-choice, shape-ending, shape-identity, shape-list}
+use Rattle.writing.proofs.LayLaws.{laying, kept, ready-later}
+use Rattle.writing.proofs.LayShapes.{puts-told, puts-missing, puts-given, puts-nothing, puts-something}
 use borrow.Author.Needs.{needs}
 use Rattle.writing.proofs.elements.lay_shape.Statement.{statement}
 use Rattle.writing.proofs.elements.lay_shape.Tie as tie
@@ -22,7 +33,12 @@ number-requires c κs = search needs
 
 -- src/elements.rt:55:34
 lay-field-requires : tie.Need-lay-field-requires
-lay-field-requires c κs = ?h1
+lay-field-requires c κs =
+    let s = c .before .before .before .before .before .before .before .before .before in
+    let f = sound-number (s .args .shape) (s .args .place) _ (c .before .before .before .before .shape .given .1) (s .pre .1) in (
+      ready-later _ _ _ (s .args .place) (s .args .place) (span (s .args .shape)) 1 (s .pre .0) (omega arith) (omega (arith, span-some (s .args .shape))),
+      subst Narrow (sym (c .number .ensures)) (number-narrow _ (f .0) (f .1)),
+    )
 
 -- src/elements.rt:55:29
 told-requires : tie.Need-told-requires
@@ -38,7 +54,12 @@ choice-requires c κs = search needs
 
 -- src/elements.rt:57:18
 lay-field-requires-2 : tie.Need-lay-field-requires-2
-lay-field-requires-2 c κs = ?h2
+lay-field-requires-2 c κs =
+    let s = c .before .before .before .before .before .before .before .before .before in
+    let f = sound-choice (s .args .shape) (s .args .place) _ _ (c .before .before .before .before .shape2 .given .1) (s .pre .1) in (
+      ready-later _ _ _ (s .args .place) (s .args .place) (span (s .args .shape)) 1 (s .pre .0) (omega arith) (omega (arith, span-some (s .args .shape))),
+      subst Narrow (sym (c .choice .ensures)) (choice-narrow _ (f .0) (f .1) _ (omega arith)),
+    )
 
 -- src/elements.rt:57:13
 told-requires-2 : tie.Need-told-requires-2
@@ -50,7 +71,10 @@ enum-told c = search needs
 
 -- src/elements.rt:59:33
 lay-identity-requires : tie.Need-lay-identity-requires
-lay-identity-requires c κs = ?h3
+unfolding span
+lay-identity-requires c κs =
+    let s = c .before .before .before .before .before .before .before in
+    ready-later _ _ _ (s .args .place) (s .args .place) (span (s .args .shape)) 4 (s .pre .0) (omega arith) (omega (arith, ap span (c .before .before .enum-told .given .1)))
 
 -- src/elements.rt:59:28
 told-requires-3 : tie.Need-told-requires-3
@@ -62,7 +86,9 @@ enum-known-shape-3 c = search needs
 
 -- src/elements.rt:60:36
 lay-list-requires : tie.Need-lay-list-requires
-lay-list-requires c κs = ?h4
+lay-list-requires c κs =
+    let s = c .before .before .before .before .before .before .before .before in
+    ready-later _ _ _ (s .args .place) (s .args .place) (span (s .args .shape)) _ (s .pre .0) (omega arith) (omega (arith, list-room (s .args .shape) _ (c .before .before .before .shape3 .given .1)))
 
 -- src/elements.rt:60:31
 told-requires-4 : tie.Need-told-requires-4
@@ -74,7 +100,11 @@ enum-told-2 c = search needs
 
 -- src/elements.rt:61:31
 lay-field-requires-3 : tie.Need-lay-field-requires-3
-lay-field-requires-3 c κs = ?h5
+lay-field-requires-3 c κs =
+    let s = c .before .before .before .before .before .before .before in (
+      ready-later _ _ _ (s .args .place) (s .args .place) (span (s .args .shape)) 1 (s .pre .0) (omega arith) (omega (arith, span-some (s .args .shape))),
+      record { some = omega arith; few = omega arith; low = omega arith; plain = refl },
+    )
 
 -- src/elements.rt:61:26
 told-requires-5 : tie.Need-told-requires-5
@@ -106,7 +136,13 @@ same-length-2 c = search needs
 
 -- src/elements.rt:43:1
 returns : tie.Need-returns
-returns c = ?h6
+returns c =
+    let s = c .before .before .before .before .before .before .before .before .before .before .before .before .before .before .before in
+    let f = sound-number (s .args .shape) (s .args .place) _ (c .before .before .before .before .before .before .before .before .before .before .shape .given .1) (s .pre .1) in
+    puts-told _ _ _ _ _ _ _ _ _ _ (c .told .ensures)
+    (shape-number (laying (s .args .values .now)) (s .args .shape) (s .args .at) (s .args .place) (kept (s .args .clean .now) (s .args .out .now))
+    (kept (c .before .before .before .before .before .lay-field .last .1 .0) (c .before .before .before .before .before .lay-field .last .1 .1 .0)) _ _ _ _ (c .before .before .before .before .before .before .before .before .before .before .shape .given .1) refl
+    (ap (λ x. rowFor x []) (c .before .before .before .before .before .before .number .ensures) ∙ number-row _ (f .0) (f .1)) (c .before .before .before .before .before .lay-field .ensures))
 
 -- src/elements.rt:43:1
 same-length-3 : tie.Need-same-length-3
@@ -118,7 +154,12 @@ same-length-4 c = search needs
 
 -- src/elements.rt:43:1
 returns-2 : tie.Need-returns-2
-returns-2 c = ?h7
+returns-2 c =
+    let s = c .before .before .before .before .before .before .before .before .before .before .before .before .before .before .before in
+    puts-told _ _ _ _ _ _ _ _ _ _ (c .told2 .ensures)
+    (shape-choice (laying (s .args .values .now)) (s .args .shape) (s .args .at) (s .args .place) (kept (s .args .clean .now) (s .args .out .now))
+    (kept (c .before .before .before .before .before .lay-field2 .last .1 .0) (c .before .before .before .before .before .lay-field2 .last .1 .1 .0)) _ _ _ _ _ (c .before .before .before .before .before .before .before .before .before .before .shape2 .given .1) refl
+    (ap (λ x. rowFor x []) (c .before .before .before .before .before .before .choice .ensures)) (c .before .before .before .before .before .lay-field2 .ensures))
 
 -- src/elements.rt:43:1
 same-length-5 : tie.Need-same-length-5
@@ -130,7 +171,11 @@ same-length-6 c = search needs
 
 -- src/elements.rt:43:1
 returns-3 : tie.Need-returns-3
-returns-3 c = ?h8
+returns-3 c =
+    let s = c .before .before .before .before .before .before .before .before .before .before .before .before .before in
+    puts-told _ _ _ _ _ _ _ _ _ _ (c .told3 .ensures)
+    (shape-identity (laying (s .args .values .now)) (s .args .shape) (s .args .at) (s .args .place) (kept (s .args .clean .now) (s .args .out .now))
+    (kept (c .before .before .before .before .before .lay-identity .last .1 .0) (c .before .before .before .before .before .lay-identity .last .1 .1 .0)) _ (c .before .before .before .before .before .before .before .before .enum-told .given .1) (c .before .before .before .before .before .lay-identity .ensures))
 
 -- src/elements.rt:43:1
 same-length-7 : tie.Need-same-length-7
@@ -142,7 +187,11 @@ same-length-8 c = search needs
 
 -- src/elements.rt:43:1
 returns-4 : tie.Need-returns-4
-returns-4 c = ?h9
+returns-4 c =
+    let s = c .before .before .before .before .before .before .before .before .before .before .before .before .before .before in
+    puts-told _ _ _ _ _ _ _ _ _ _ (c .told4 .ensures)
+    (shape-list (laying (s .args .values .now)) (s .args .shape) (s .args .at) (s .args .place) (kept (s .args .clean .now) (s .args .out .now))
+    (kept (c .before .before .before .before .before .lay-list .last .1 .0) (c .before .before .before .before .before .lay-list .last .1 .1 .0)) _ _ (c .before .before .before .before .before .before .before .before .before .shape3 .given .1) (c .before .before .before .before .before .lay-list .ensures))
 
 -- src/elements.rt:43:1
 same-length-9 : tie.Need-same-length-9
@@ -154,7 +203,11 @@ same-length-10 c = search needs
 
 -- src/elements.rt:43:1
 returns-5 : tie.Need-returns-5
-returns-5 c = ?h10
+returns-5 c =
+    let s = c .before .before .before .before .before .before .before .before .before .before .before .before .before in
+    puts-told _ _ _ _ _ _ _ _ _ _ (c .told5 .ensures)
+    (shape-ending (laying (s .args .values .now)) (s .args .shape) (s .args .at) (s .args .place) (kept (s .args .clean .now) (s .args .out .now))
+    (kept (c .before .before .before .before .before .lay-field3 .last .1 .0) (c .before .before .before .before .before .lay-field3 .last .1 .1 .0)) _ (c .before .before .before .before .before .before .before .before .enum-told2 .given .1) (c .before .before .before .before .before .lay-field3 .ensures))
 
 -- src/elements.rt:43:1
 same-length-11 : tie.Need-same-length-11
@@ -162,7 +215,10 @@ same-length-11 c = search needs
 
 -- src/elements.rt:43:1
 returns-6 : tie.Need-returns-6
-returns-6 c = ?h11
+returns-6 c =
+    let s = c .before .before .before .before .before .before .before .before .before in
+    puts-missing (s .args .shape) (s .args .values .now) (s .args .at) (s .args .place) (s .args .clean .now) (s .args .out .now) (omega (arith, s .pre .0 .size, s .pre .0 .room))
+    (s .pre .0 .clear) _ _ (c .before .before .before .before .shape4 .given .1) (s .pre .1) (c .before .holds .ensures) (c .if1 .taken)
 
 -- src/elements.rt:43:1
 same-length-12 : tie.Need-same-length-12
@@ -170,7 +226,10 @@ same-length-12 c = search needs
 
 -- src/elements.rt:43:1
 returns-7 : tie.Need-returns-7
-returns-7 c = ?h12
+returns-7 c =
+    let s = c .before .before .before .before .before .before .before .before .before in
+    puts-given (s .args .shape) (s .args .values .now) (s .args .at) (s .args .place) (s .args .clean .now) (s .args .out .now) (omega (arith, s .pre .0 .size, s .pre .0 .room))
+    (s .pre .0 .clear) _ _ (c .before .before .before .before .shape4 .given .1) (s .pre .1) (c .before .holds .ensures) (c .if1 .left)
 
 -- src/elements.rt:43:1
 same-length-13 : tie.Need-same-length-13
@@ -178,7 +237,10 @@ same-length-13 c = search needs
 
 -- src/elements.rt:43:1
 returns-8 : tie.Need-returns-8
-returns-8 c = ?h13
+returns-8 c =
+    let s = c .before .before .before .before .before .before .before .before .before in
+    puts-nothing (s .args .shape) (s .args .values .now) (s .args .at) (s .args .place) (s .args .clean .now) (s .args .out .now) (omega (arith, s .pre .0 .size, s .pre .0 .room))
+    (s .pre .0 .clear) _ _ (c .before .before .before .before .shape5 .given .1) (c .before .nothing-since .ensures) (c .if2 .taken)
 
 -- src/elements.rt:43:1
 same-length-14 : tie.Need-same-length-14
@@ -186,7 +248,10 @@ same-length-14 c = search needs
 
 -- src/elements.rt:43:1
 returns-9 : tie.Need-returns-9
-returns-9 c = ?h14
+returns-9 c =
+    let s = c .before .before .before .before .before .before .before .before .before in
+    puts-something (s .args .shape) (s .args .values .now) (s .args .at) (s .args .place) (s .args .clean .now) (s .args .out .now) (omega (arith, s .pre .0 .size, s .pre .0 .room))
+    (s .pre .0 .clear) _ _ (c .before .before .before .before .shape5 .given .1) (c .before .nothing-since .ensures) (c .if2 .left)
 
 pub lay-shape-spec : {M : Type 1} → statement M
 lay-shape-spec =
