@@ -7,7 +7,6 @@ use mathlib.Core.List.{List, [], _∷_, _++_}
 use native.Mathlib.Nat.{add-zero}
 use native.Mathlib.Numerals.{add-one}
 use native.Mathlib.Omega.{arith}
-use borrow.Author.Tests.{eq-eqb, ne-eqb}
 use lib.Dec.{T, eqb}
 use lib.ListN.{length, take, drop, getD}
 use lib.Seq.{take-suc, getD-take}
@@ -35,7 +34,8 @@ use Rattle.table.proofs.ShapeLaws.{sound-missing}
 use Rattle.layout.proofs.Tests.{and-true}
 
 -- what is laid is found so
-pub puts-told : (rows : List Row) (s : List ℕ) (at p : ℕ) (vs vs′ out out′ : List ℕ) (x : Put) (r : Laying) → r ≡ toldOf x → Lays rows s at p vs vs′ out out′ x → Puts rows s at p vs vs′ out out′ r
+pub puts-told : (rows : List Row) (s : List ℕ) (at p : ℕ) (vs vs′ out out′ : List ℕ) (x : Put) (r : Laying) → r ≡ toldOf x → Lays rows s at p vs vs′ out out′ x
+    → Puts rows s at p vs vs′ out out′ r
 puts-told rows s at p vs vs′ out out′ x r e f = subst (Puts rows s at p vs vs′ out out′) (sym e) (go x f)
   where
     go : (x : Put) → Lays rows s at p vs vs′ out out′ x → Puts rows s at p vs vs′ out out′ (toldOf x)
@@ -69,7 +69,8 @@ module _ (n : Refusal) (c : Condition) (s : List ℕ) (at p : ℕ) (vs out : Lis
 
 -- ---- the shapes of the two refusals
 module _ (x : Shape) (s : List ℕ) (at p : ℕ) (vs out : List ℕ) (room : p + span x ≤ length vs) (z : Clear vs p) (u : Bool) where
-  refusal-row : (y : Shape) → x ≡ y → span y ≡ 1 → (r : Laying) → (p < length vs → Puts (rowsOf y [] p) s at p vs vs out out r) → Puts (rowsOf x [] p) s at p vs vs out out r
+  refusal-row : (y : Shape) → x ≡ y → span y ≡ 1 → (r : Laying) → (p < length vs → Puts (rowsOf y [] p) s at p vs vs out out r)
+      → Puts (rowsOf x [] p) s at p vs vs out out r
   refusal-row y e some r f = subst (λ (v : Shape). Puts (rowsOf v [] p) s at p vs vs out out r) (sym e) (f (omega (arith, ap span e)))
 
   module _ (q : ℕ) (e : x ≡ Missing q) (t : T (sound x p)) (c : u ≡ eqb (getD vs q 0) No) where
@@ -110,7 +111,8 @@ lay-shape (Missing q) hang p done s e = lay-under 0 0 0 NoGroup 1 (is q No ∷ [
 lay-shape (Nothing o) hang p done s e = lay-under 0 0 0 NothingFollows 1 (nothingSince o ∷ []) hang [] done s e
 
 module _ (w : When) (x : Shape) (s : List ℕ) (at p : ℕ) (vs vs′ out out′ : List ℕ) where
-  pub element-puts : (r : Laying) → Clear vs p → present vs (conditionsOf w) ≡ true → Puts (rowsOf x [] p) s at p vs vs′ out out′ r → Puts (rowsOf x (conditionsOf w) p) s at p vs vs′ out out′ r
+  pub element-puts : (r : Laying) → Clear vs p → present vs (conditionsOf w) ≡ true → Puts (rowsOf x [] p) s at p vs vs′ out out′ r
+      → Puts (rowsOf x (conditionsOf w) p) s at p vs vs′ out out′ r
   element-puts r z e f =
       let same = lay-shape x (conditionsOf w) p (take p vs) (drop p s) (present-when w vs p z ∙ e) in
       let n : length (rowsOf x [] p) ≡ length (rowsOf x (conditionsOf w) p) = length-shape x [] p ∙ sym (length-shape x (conditionsOf w) p) in
@@ -119,7 +121,8 @@ module _ (w : When) (x : Shape) (s : List ℕ) (at p : ℕ) (vs vs′ out out′
             (subst (λ (m : ℕ). Finds (lay (rowsOf x [] p) (take p vs) (drop p s)) m at p vs vs′ out out′ r) n (f .finds));
       }
 
-  pub element-off : Clear vs p → present vs (conditionsOf w) ≡ false → p + span x ≤ length vs → Puts (rowsOf x (conditionsOf w) p) s at p vs vs out out (laying.Next at)
+  pub element-off : Clear vs p → present vs (conditionsOf w) ≡ false → p + span x ≤ length vs
+      → Puts (rowsOf x (conditionsOf w) p) s at p vs vs out out (laying.Next at)
   element-off z e h =
       record {
         finds = passes (laws.laying s) at p (kept vs out) (rowsOf x (conditionsOf w) p) (shut-element w x p vs e z) z (omega (arith, length-shape x (conditionsOf w) p)) .ends;

@@ -15,7 +15,6 @@ use Rattle.layout.specs.declared.Shape.{Shape}
 use Rattle.layout.specs.declared.When.{When}
 use Rattle.writing.specs.declared.Laying.{Laying}
 use Rattle.writing.specs.declared.Laying.the-variants as laying
-use Rattle.writing.specs.declared.Walked.{Walked}
 use Rattle.writing.specs.declared.Walked.the-variants as walked
 use Rattle.layout.specs.Row.{Row, all, present}
 use Rattle.layout.specs.Shape.{rowsOf, span, conditionsOf, unrolled}
@@ -47,7 +46,8 @@ pub record Wrote (es : List Element) (s out₀ vs out : List ℕ) (grouped : Boo
   pub passed : k ≤ length es
 
 -- the same under other names
-pub wrote-as : {es : List Element} {s out₀ vs vs′ out out′ : List ℕ} {grouped grouped′ : Bool} {at at′ p k : ℕ} → vs′ ≡ vs → out′ ≡ out → grouped′ ≡ grouped → at′ ≡ at
+pub wrote-as : {es : List Element} {s out₀ vs vs′ out out′ : List ℕ} {grouped grouped′ : Bool} {at at′ p k : ℕ} → vs′ ≡ vs → out′ ≡ out → grouped′ ≡ grouped
+    → at′ ≡ at
     → Wrote es s out₀ vs out grouped at p k → Wrote es s out₀ vs′ out′ grouped′ at′ p k
 wrote-as a b c d now = rw (a, b, c, d) now
 
@@ -82,133 +82,135 @@ shapeAt table k = getD table k past .1
 abbrev rowsAt : List Element → ℕ → ℕ → List Row
 rowsAt table k p = rowsOf (shapeAt table k) (conditionsOf (whenAt table k)) p
 
-module _ (kind : Kind) (table : List Element) (count : ℕ) (held : Held kind table count) (s : List ℕ) where
-  kind-rows : lay (unrolled (take count table) 0) [] s ≡ laid kind s
-  unfolding rows
-  kind-rows = ap (λ (l : List Element). lay (unrolled l 0) [] s) (held .same)
+-- the rows of these elements are the kind's
+kind-rows : {kind : Kind} {table : List Element} {count : ℕ} → Held kind table count → (s : List ℕ) → lay (unrolled (take count table) 0) [] s ≡ laid kind s
+unfolding rows
+kind-rows held s = ap (λ (l : List Element). lay (unrolled l 0) [] s) (held .same)
 
-  module _ (out₀ vs out : List ℕ) (grouped : Bool) (at p k : ℕ) (now : Wrote (take count table) s out₀ vs out grouped at p k) where
-    module _ (less : k < count) where
-      inside : k < length (take count table)
-      inside = omega (arith, held .size)
+module _ {kind : Kind} {table : List Element} {count : ℕ} (held : Held kind table count) {s out₀ vs out : List ℕ} {grouped : Bool} {at p k : ℕ}
+    (now : Wrote (take count table) s out₀ vs out grouped at p k) where
+  module _ (less : k < count) where
+    inside : k < length (take count table)
+    inside = omega (arith, held .size)
 
-      pub turn-room : p + span (shapeAt table k) ≤ places
-      turn-room = placed-room (take count table) p k (getD table k past) (now .placed) inside (held .at k less)
+    pub turn-room : p + span (shapeAt table k) ≤ places
+    turn-room = placed-room (take count table) p k (getD table k past) (now .placed) inside (held .at k less)
 
-      -- what the laying of its shape starts from
-      pub turn-ready : length s ≡ places → Ready s vs at p (span (shapeAt table k)) × T (sound (shapeAt table k) p)
-      turn-ready given = (
-        record { given = given; size = now .lies .size; room = turn-room; low = omega (arith, now .lies .few); clear = now .clear },
-        placed-sound (take count table) p k (getD table k past) (now .placed) inside (held .at k less),
-      )
+    -- what the laying of its shape starts from
+    pub turn-ready : length s ≡ places → Ready s vs at p (span (shapeAt table k)) × T (sound (shapeAt table k) p)
+    turn-ready given = (
+      record { given = given; size = now .lies .size; room = turn-room; low = omega (arith, now .lies .few); clear = now .clear },
+      placed-sound (take count table) p k (getD table k past) (now .placed) inside (held .at k less),
+    )
 
-      here : List Laid
-      here = lay (rowsAt table k p) (take p vs) (drop p s)
+    here : List Laid
+    here = lay (rowsAt table k p) (take p vs) (drop p s)
 
-      n : ℕ
-      n = length (rowsAt table k p)
+    n : ℕ
+    n = length (rowsAt table k p)
 
-      later : List Row
-      later = unrolled (drop (k + 1) (take count table)) (p + span (shapeAt table k))
+    later : List Row
+    later = unrolled (drop (k + 1) (take count table)) (p + span (shapeAt table k))
 
-      split : lay (unrolled (take count table) 0) [] s ≡ now .done ++ (here ++ lay later (take p vs ++ vals here) (drop n (drop p s)))
-      unfolding unrolled here later n
-      split =
-          now .whole
-          ∙ ap (λ (l : List Element). now .done ++ lay (unrolled l p) (take p vs) (drop p s))
-          (first (take count table) p k (getD table k past) (now .placed) inside (held .at k less))
-          ∙ ap (λ (l : List Laid). now .done ++ l) (lay-append (rowsAt table k p) later (take p vs) (drop p s))
+    split : lay (unrolled (take count table) 0) [] s ≡ now .done ++ (here ++ lay later (take p vs ++ vals here) (drop n (drop p s)))
+    unfolding unrolled here later n
+    split =
+        now .whole
+        ∙ ap (λ (l : List Element). now .done ++ lay (unrolled l p) (take p vs) (drop p s))
+        (first (take count table) p k (getD table k past) (now .placed) inside (held .at k less))
+        ∙ ap (λ (l : List Laid). now .done ++ l) (lay-append (rowsAt table k p) later (take p vs) (drop p s))
 
-      module _ (vs′ out′ : List ℕ) (w : ℕ) (d : w ≡ span (shapeAt table k)) where
-        more : (b : Bool) (at′ : ℕ) → Lies here n at at′ p vs vs′ out out′ → all good here ≡ b → all goodButGroup here ≡ true
-            → Wrote (take count table) s out₀ vs′ out′ (grouped && b) at′ (p + w) (k + 1)
-        unfolding here later n
-        more b at′ f g h =
-            let m : n ≡ w = length-shape (shapeAt table k) (conditionsOf (whenAt table k)) p ∙ sym d in
-            let left : List Element = drop (k + 1) (take count table) in
-            record {
-              done = now .done ++ here;
-              whole =
-                  split ∙ sym (append-assoc (now .done) here (lay later (take p vs ++ vals here) (drop n (drop p s))))
-                  ∙ ap₂ (λ (a b : List ℕ). now .done ++ here ++ lay later a b) (sym (f .front)) (drop-drop n p s)
-                  ∙ ap₂ (λ (x y : ℕ). now .done ++ here ++ lay (unrolled left (p + x)) (take (p + y) vs′) (drop (p + y) s)) (sym d) m;
-              lies =
-                  subst (λ (x : ℕ). Lies (now .done ++ here) (p + x) headBits at′ 0 (replicate places 0) vs′ out₀ out′) m
-                  (lies-join (now .done) here p n headBits at at′ 0 (replicate places 0) vs vs′ out₀ out out′ (now .lies)
-                  (subst (λ (x : ℕ). Lies here n at at′ x vs vs′ out out′) (sym (zero-add p)) f));
-              fine = all-append good (now .done) here ∙ ap₂ _&&_ (now .fine) g;
-              coded = all-append goodButGroup (now .done) here ∙ ap₂ _&&_ (now .coded) h;
-              placed = subst (λ (x : ℕ). Placed (take count table) (p + x) (k + 1)) (sym d)
-                  (placed-more (take count table) p k (getD table k past) (now .placed) inside (held .at k less));
-              clear = λ q l. clear-later n p vs vs′ (f .stays) (now .clear) q (omega arith);
-              passed = omega arith;
-            }
+    module _ (vs′ out′ : List ℕ) (w : ℕ) (d : w ≡ span (shapeAt table k)) where
+      more : (b : Bool) (at′ : ℕ) → Lies here n at at′ p vs vs′ out out′ → all good here ≡ b → all goodButGroup here ≡ true
+          → Wrote (take count table) s out₀ vs′ out′ (grouped && b) at′ (p + w) (k + 1)
+      unfolding here later n
+      more b at′ f g h =
+          let m : n ≡ w = length-shape (shapeAt table k) (conditionsOf (whenAt table k)) p ∙ sym d in
+          let left : List Element = drop (k + 1) (take count table) in
+          record {
+            done = now .done ++ here;
+            whole =
+                split ∙ sym (append-assoc (now .done) here (lay later (take p vs ++ vals here) (drop n (drop p s))))
+                ∙ ap₂ (λ (a b : List ℕ). now .done ++ here ++ lay later a b) (sym (f .front)) (drop-drop n p s)
+                ∙ ap₂ (λ (x y : ℕ). now .done ++ here ++ lay (unrolled left (p + x)) (take (p + y) vs′) (drop (p + y) s)) (sym d) m;
+            lies =
+                subst (λ (x : ℕ). Lies (now .done ++ here) (p + x) headBits at′ 0 (replicate places 0) vs′ out₀ out′) m
+                (lies-join (now .done) here p n headBits at at′ 0 (replicate places 0) vs vs′ out₀ out out′ (now .lies)
+                (subst (λ (x : ℕ). Lies here n at at′ x vs vs′ out out′) (sym (zero-add p)) f));
+            fine = all-append good (now .done) here ∙ ap₂ _&&_ (now .fine) g;
+            coded = all-append goodButGroup (now .done) here ∙ ap₂ _&&_ (now .coded) h;
+            placed = subst (λ (x : ℕ). Placed (take count table) (p + x) (k + 1)) (sym d)
+                (placed-more (take count table) p k (getD table k past) (now .placed) inside (held .at k less));
+            clear = λ q l. clear-later n p vs vs′ (f .stays) (now .clear) q (omega arith);
+            passed = omega arith;
+          }
 
-        on : (at′ : ℕ) → Puts (rowsAt table k p) s at p vs vs′ out out′ (laying.Next at′) → Wrote (take count table) s out₀ vs′ out′ grouped at′ (p + w) (k + 1)
-        unfolding here n
-        on at′ g =
-            subst (λ (b : Bool). Wrote (take count table) s out₀ vs′ out′ b at′ (p + w) (k + 1)) (and-true grouped)
-            (more true at′ (g .finds .0) (g .finds .1) (good-coded here (g .finds .1)))
+      on : (at′ : ℕ) → Puts (rowsAt table k p) s at p vs vs′ out out′ (laying.Next at′) → Wrote (take count table) s out₀ vs′ out′ grouped at′ (p + w) (k + 1)
+      unfolding here n
+      on at′ g =
+          subst (λ (b : Bool). Wrote (take count table) s out₀ vs′ out′ b at′ (p + w) (k + 1)) (and-true grouped)
+          (more true at′ (g .finds .0) (g .finds .1) (good-coded here (g .finds .1)))
 
-      -- an element that is not there is passed
-      pub turn-off : (w : ℕ) → w ≡ span (shapeAt table k) → present vs (conditionsOf (whenAt table k)) ≡ false
-          → Wrote (take count table) s out₀ vs out grouped at (p + w) (k + 1)
-      turn-off w d e =
-          on vs out w d at
-          (element-off (whenAt table k) (shapeAt table k) s at p vs vs out out (now .clear) e (omega (arith, turn-room, now .lies .size)))
+    -- an element that is not there is passed
+    pub turn-off : {w : ℕ} → w ≡ span (shapeAt table k) → present vs (conditionsOf (whenAt table k)) ≡ false
+        → Wrote (take count table) s out₀ vs out grouped at (p + w) (k + 1)
+    turn-off {w} d e =
+        on vs out w d at
+        (element-off (whenAt table k) (shapeAt table k) s at p vs vs out out (now .clear) e (omega (arith, turn-room, now .lies .size)))
 
-      -- one that is there, by what the laying of its shape finds
-      module _ (vs′ out′ : List ℕ) (r : Laying) (there : present vs (conditionsOf (whenAt table k)) ≡ true) (f : Puts (rowsOf (shapeAt table k) [] p) s at p vs vs′ out out′ r) where
-        puts : (x : Laying) → r ≡ x → Puts (rowsAt table k p) s at p vs vs′ out out′ x
-        puts x e =
-            subst (Puts (rowsAt table k p) s at p vs vs′ out out′) e
-            (element-puts (whenAt table k) (shapeAt table k) s at p vs vs′ out out′ r (now .clear) there f)
+    -- one that is there, by what the laying of its shape finds
+    module _ {vs′ out′ : List ℕ} {r : Laying} (there : present vs (conditionsOf (whenAt table k)) ≡ true)
+        (f : Puts (rowsOf (shapeAt table k) [] p) s at p vs vs′ out out′ r) where
+      puts : (x : Laying) → r ≡ x → Puts (rowsAt table k p) s at p vs vs′ out out′ x
+      puts x e =
+          subst (Puts (rowsAt table k p) s at p vs vs′ out out′) e
+          (element-puts (whenAt table k) (shapeAt table k) s at p vs vs′ out out′ r (now .clear) there f)
 
-        pub turn-next : (w at′ : ℕ) → w ≡ span (shapeAt table k) → r ≡ laying.Next at′ → Wrote (take count table) s out₀ vs′ out′ grouped at′ (p + w) (k + 1)
-        turn-next w at′ d e = on vs′ out′ w d at′ (puts (laying.Next at′) e)
+      pub turn-next : {w at′ : ℕ} → w ≡ span (shapeAt table k) → r ≡ laying.Next at′ → Wrote (take count table) s out₀ vs′ out′ grouped at′ (p + w) (k + 1)
+      turn-next {w} {at′} d e = on vs′ out′ w d at′ (puts (laying.Next at′) e)
 
-        pub turn-missing : (w : ℕ) → w ≡ span (shapeAt table k) → r ≡ laying.NoGroup → Wrote (take count table) s out₀ vs′ out′ false at (p + w) (k + 1)
-        unfolding here n
-        turn-missing w d e =
-            let g = puts laying.NoGroup e in
-            subst (λ (b : Bool). Wrote (take count table) s out₀ vs′ out′ b at (p + w) (k + 1)) (and-false grouped)
-            (more vs′ out′ w d false at (g .finds .0) (g .finds .1) (g .finds .2))
+      pub turn-missing : {w : ℕ} → w ≡ span (shapeAt table k) → r ≡ laying.NoGroup → Wrote (take count table) s out₀ vs′ out′ false at (p + w) (k + 1)
+      unfolding here n
+      turn-missing {w} d e =
+          let g = puts laying.NoGroup e in
+          subst (λ (b : Bool). Wrote (take count table) s out₀ vs′ out′ b at (p + w) (k + 1)) (and-false grouped)
+          (more vs′ out′ w d false at (g .finds .0) (g .finds .1) (g .finds .2))
 
-        pub turn-bad : r ≡ laying.Bad → Walks (laid kind s) out₀ out′ walked.Reserved
-        unfolding here later n
-        turn-bad e =
-            let g = puts laying.Bad e in
-            let rest = lay later (take p vs ++ vals here) (drop n (drop p s)) in
-            record {
-              outcome = (
-                ap (all goodButGroup) (sym kind-rows ∙ split) ∙ all-append goodButGroup (now .done) (here ++ rest)
-                    ∙ ap (λ (b : Bool). all goodButGroup (now .done) && b)
-                    (all-append goodButGroup here rest ∙ ap (λ (b : Bool). b && all goodButGroup rest) (g .finds .0))
-                    ∙ and-false (all goodButGroup (now .done)),
-                g .finds .1 ∙ now .lies .over .size,
-              );
-            }
-
-    -- ---- after the last element
-    module _ (end : count ≤ k) where
-      last : laid kind s ≡ now .done
-      unfolding unrolled lay
-      last =
-          sym kind-rows ∙ now .whole
-          ∙ ap (λ (l : List Element). now .done ++ lay (unrolled l p) (take p vs) (drop p s))
-          (drop-of-length-le (take count table) {i = k} (omega (arith, held .size)))
-          ∙ append-nil (now .done)
-
-      pub wrote-bits : grouped ≡ true → Walks (laid kind s) out₀ out (walked.Bits at)
-      wrote-bits g =
+      pub turn-bad : r ≡ laying.Bad → Walks (laid kind s) out₀ out′ walked.Reserved
+      unfolding here later n
+      turn-bad e =
+          let g = puts laying.Bad e in
+          let rest = lay later (take p vs ++ vals here) (drop n (drop p s)) in
           record {
             outcome = (
-              ap (all good) last ∙ now .fine ∙ g,
-              now .lies .on ∙ ap (λ (l : List Laid). headBits + length (emit l)) (sym last),
-              omega (arith, now .lies .few, now .placed .room),
-              subst (λ (l : List Laid). Over out₀ out headBits (emit l)) (sym last) (now .lies .over),
+              ap (all goodButGroup) (sym (kind-rows held s) ∙ split) ∙ all-append goodButGroup (now .done) (here ++ rest)
+                  ∙ ap (λ (b : Bool). all goodButGroup (now .done) && b)
+                  (all-append goodButGroup here rest ∙ ap (λ (b : Bool). b && all goodButGroup rest) (g .finds .0))
+                  ∙ and-false (all goodButGroup (now .done)),
+              g .finds .1 ∙ now .lies .over .size,
             );
           }
 
-      pub wrote-group : grouped ≡ false → Walks (laid kind s) out₀ out walked.NoGroup
-      wrote-group g = record { outcome = (ap (all good) last ∙ now .fine ∙ g, ap (all goodButGroup) last ∙ now .coded, now .lies .over .size) }
+  -- ---- after the last element
+  module _ (end : count ≤ k) where
+    last : laid kind s ≡ now .done
+    unfolding unrolled lay
+    last =
+        sym (kind-rows held s) ∙ now .whole
+        ∙ ap (λ (l : List Element). now .done ++ lay (unrolled l p) (take p vs) (drop p s))
+        (drop-of-length-le (take count table) {i = k} (omega (arith, held .size)))
+        ∙ append-nil (now .done)
+
+    pub wrote-bits : grouped ≡ true → Walks (laid kind s) out₀ out (walked.Bits at)
+    wrote-bits g =
+        record {
+          outcome = (
+            ap (all good) last ∙ now .fine ∙ g,
+            now .lies .on ∙ ap (λ (l : List Laid). headBits + length (emit l)) (sym last),
+            omega (arith, now .lies .few, now .placed .room),
+            subst (λ (l : List Laid). Over out₀ out headBits (emit l)) (sym last) (now .lies .over),
+          );
+        }
+
+    pub wrote-group : grouped ≡ false → Walks (laid kind s) out₀ out walked.NoGroup
+    wrote-group g = record { outcome = (ap (all good) last ∙ now .fine ∙ g, ap (all goodButGroup) last ∙ now .coded, now .lies .over .size) }

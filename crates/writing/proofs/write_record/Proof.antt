@@ -7,53 +7,44 @@ use Rattle.writing.proofs.WriteLaws.{counted, refused-by, refused-recor
 use borrow.Author.Needs.{needs}
 use Rattle.writing.proofs.write_record.Statement.{statement}
 use Rattle.writing.proofs.write_record.Tie as tie
-use Rattle.writing.proofs.write_record.Reads as reads
-use Rattle.writing.proofs.write_record.Lts as lts
-use Rattle.writing.proofs.walk.Reads as walk-reads
-use Rattle.writing.proofs.write_part.Reads as write-part-reads
 
--- src/lib.rt:127:11
 walk-requires : tie.Need-walk-requires
 walk-requires c κs = search needs
 
--- src/lib.rt:128:22
 enum-known-n : tie.Need-enum-known-n
 enum-known-n c = search needs
 
--- src/lib.rt:128:28
 write-part-requires : tie.Need-write-part-requires
 write-part-requires c κs =
     let s = c .before .before .before .before .before .before .before .before in
-    let k = counted (s .args .kind) (s .args .values .now) _ _ (c .before .before .before .n .given .1) (c .before .before .before .before .before .walk .ensures) in
+    let walk = c .before .before .before .before .before .walk in
+    let n = c .before .before .before .n in
+    let k = counted (s .args .kind) (s .args .values .now) _ _ (n .given .1) (walk .ensures) in
     (search needs, subst (λ (b : Bool). T b) (sym (k .0)) tt, k .1, k .2)
 
--- src/lib.rt:129:46
 enum-told : tie.Need-enum-told
 enum-told c = search needs
 
--- src/lib.rt:130:45
 enum-told-2 : tie.Need-enum-told-2
 enum-told-2 c = search needs
 
--- src/lib.rt:124:1
 same-length : tie.Need-same-length
 same-length c = search needs
 
--- src/lib.rt:124:1
 returns : tie.Need-returns
 returns c = search needs
 
--- src/lib.rt:124:1
 returns-2 : tie.Need-returns-2
 returns-2 c =
     let s = c .before .before .before .before .before in
-    refused-record (s .args .kind) (s .args .values .now) (s .args .out .now) (s .args .start) _ (refused-by (s .args .kind) (s .args .values .now) _ _ (c .enum-told .given .1) (c .before .before .walk .ensures))
+    refused-record (s .args .kind) (s .args .values .now) (s .args .out .now) (s .args .start) _
+    (refused-by (s .args .kind) (s .args .values .now) _ _ (c .enum-told .given .1) (c .before .before .walk .ensures))
 
--- src/lib.rt:124:1
 returns-3 : tie.Need-returns-3
 returns-3 c =
     let s = c .before .before .before .before .before in
-    refused-record (s .args .kind) (s .args .values .now) (s .args .out .now) (s .args .start) _ (refused-by (s .args .kind) (s .args .values .now) _ _ (c .enum-told2 .given .1) (c .before .before .walk .ensures))
+    refused-record (s .args .kind) (s .args .values .now) (s .args .out .now) (s .args .start) _
+    (refused-by (s .args .kind) (s .args .values .now) _ _ (c .enum-told2 .given .1) (c .before .before .walk .ensures))
 
 pub write-record-spec : {M : Type 1} → statement M
 write-record-spec =
