@@ -99,7 +99,8 @@ module _ (out out₁ out₂ : List ℕ) (at : ℕ) (a b : List Bool) (f : Over o
 pub lies-none : (at p : ℕ) (vs out : List ℕ) → Lies [] 0 at at p vs vs out out
 unfolding vals emit
 lies-none at p vs out =
-    record { on = sym (add-zero at); few = omega arith; front = ap (λ (n : ℕ). take n vs) (add-zero p) ∙ sym (append-nil (take p vs)); before = refl; stays = refl; size = refl; over = over-none out at }
+    let front : take (p + 0) vs ≡ take p vs ++ [] = ap (λ (n : ℕ). take n vs) (add-zero p) ∙ sym (append-nil (take p vs)) in
+    record { on = sym (add-zero at); few = omega arith; front = front; before = refl; stays = refl; size = refl; over = over-none out at }
 
 module _ (a b : List Laid) (n m at at₁ at₂ p : ℕ) (vs vs₁ vs₂ out out₁ out₂ : List ℕ) where
   pub lies-join : Lies a n at at₁ p vs vs₁ out out₁ → Lies b m at₁ at₂ (p + n) vs₁ vs₂ out₁ out₂ → Lies (a ++ b) (n + m) at at₂ p vs vs₂ out out₂
@@ -154,7 +155,8 @@ module _ (a b : List Row) (s : List ℕ) (at at₁ p : ℕ) (vs vs₁ vs₂ out 
       )
 
 -- what is bad in the first rows is bad in all
-pub lays-stop : (a b : List Row) (s : List ℕ) (at p : ℕ) (vs vs₁ out out₁ : List ℕ) → Lays a s at p vs vs₁ out out₁ Bad → Lays (a ++ b) s at p vs vs₁ out out₁ Bad
+pub lays-stop : (a b : List Row) (s : List ℕ) (at p : ℕ) (vs vs₁ out out₁ : List ℕ) → Lays a s at p vs vs₁ out out₁ Bad
+    → Lays (a ++ b) s at p vs vs₁ out out₁ Bad
 lays-stop a b s at p vs vs₁ out out₁ f =
     let first = lay a (take p vs) (drop p s) in
     let second = lay b (take p vs ++ vals first) (drop (length a) (drop p s)) in
@@ -210,12 +212,14 @@ pub lay-under : (w first codes : ℕ) (n : Refusal) (back : ℕ) (own hang : Lis
 unfolding lay present
 lay-under w first codes n back own hang more done s e = rw (all-append (holds done) own hang, e, and-true (all (holds done) own))
 
-module _ (w first codes : ℕ) (n : Refusal) (back : ℕ) (own hang : List Condition) (more : List Row) (s : List ℕ) (at p : ℕ) (vs vs′ out out′ : List ℕ) (r : Put) where
+module _ (w first codes : ℕ) (n : Refusal) (back : ℕ) (own hang : List Condition) (more : List Row) (s : List ℕ) (at p : ℕ) (vs vs′ out out′ : List ℕ)
+    (r : Put) where
   pub lays-under : present (take p vs) hang ≡ true → Lays (row w first codes n back own ∷ more) s at p vs vs′ out out′ r
       → Lays (row w first codes n back (own ++ hang) ∷ more) s at p vs vs′ out out′ r
   lays-under e f =
       record {
-        ends = subst (λ (l : List Laid). Ends l (suc (length more)) at p vs vs′ out out′ r) (sym (lay-under w first codes n back own hang more (take p vs) (drop p s) e)) (f .ends);
+        ends = subst (λ (l : List Laid). Ends l (suc (length more)) at p vs vs′ out out′ r)
+            (sym (lay-under w first codes n back own hang more (take p vs) (drop p s) e)) (f .ends);
       }
 
 -- ---- laying is a walk
@@ -227,17 +231,14 @@ pub told : (r : Put) → ((at : ℕ) × (r ≡ Next at)) ⊎ Stop r
 told (Next at) = inl (at, refl)
 told Bad = inr tt
 
-pub lays-after : (a b : List Row) (s : List ℕ) (at p : ℕ) (vs vs₁ out out₁ : List ℕ) (r : Put) → Stop r → Lays a s at p vs vs₁ out out₁ r → Lays (a ++ b) s at p vs vs₁ out out₁ r
+pub lays-after : (a b : List Row) (s : List ℕ) (at p : ℕ) (vs vs₁ out out₁ : List ℕ) (r : Put) → Stop r → Lays a s at p vs vs₁ out out₁ r
+    → Lays (a ++ b) s at p vs vs₁ out out₁ r
 lays-after a b s at p vs vs₁ out out₁ Bad h f = lays-stop a b s at p vs vs₁ out out₁ f
 lays-after a b s at p vs vs₁ out out₁ (Next at₁) h f = absurd h
 
 pub lays-size : (rows : List Row) (s : List ℕ) (at p : ℕ) (vs vs₁ out out₁ : List ℕ) (r : Put) → Lays rows s at p vs vs₁ out out₁ r → length vs₁ ≡ length vs
 lays-size rows s at p vs vs₁ out out₁ (Next at₁) f = f .ends .0 .size
 lays-size rows s at p vs vs₁ out out₁ Bad f = f .ends .2
-
-pub lays-out : (rows : List Row) (s : List ℕ) (at p : ℕ) (vs vs₁ out out₁ : List ℕ) (r : Put) → Lays rows s at p vs vs₁ out out₁ r → length out₁ ≡ length out
-lays-out rows s at p vs vs₁ out out₁ (Next at₁) f = f .ends .0 .over .size
-lays-out rows s at p vs vs₁ out out₁ Bad f = f .ends .1
 
 -- the values kept and the bytes lent
 pub record Kept : Type 0 where
@@ -268,7 +269,8 @@ laying s =
     }
 
 -- ---- a field
-module _ (f : Field) (s : List ℕ) (at p : ℕ) (vs out : List ℕ) (inside : p < length vs) (narrow : Narrow f) (v : ℕ) (h : v ≡ held (rowFor f []) (getD s p 0)) where
+module _ (f : Field) (s : List ℕ) (at p : ℕ) (vs out : List ℕ) (inside : p < length vs) (narrow : Narrow f) (v : ℕ) (h : v ≡ held (rowFor f [])
+    (getD s p 0)) where
   pub field-laid : f .first ≤ v → v - f .first < f .codes → (out′ : List ℕ) → out′ ≡ putAt out at (f .width) (v - f .first)
       → Lays (rowFor f [] ∷ []) s at p vs (set vs p v) out out′ (Next (at + f .width))
   unfolding present

@@ -7,7 +7,6 @@ use mathlib.Core.List.{List, [], _∷_, _++_}
 use native.Mathlib.Nat.{add-zero}
 use native.Mathlib.Numerals.{add-one}
 use native.Mathlib.Omega.{arith}
-use borrow.Author.Tests.{eq-eqb, ne-eqb}
 use lib.Dec.{T, eqb}
 use lib.ListN.{length, take, drop, getD}
 use lib.Seq.{take-suc, getD-take}
@@ -35,7 +34,8 @@ use Rattle.table.proofs.ShapeLaws.{sound-missing}
 use Rattle.layout.proofs.Tests.{and-true}
 
 -- what is laid is found so
-pub puts-told : (rows : List Row) (s : List ℕ) (at p : ℕ) (vs vs′ out out′ : List ℕ) (x : Put) (r : Laying) → r ≡ toldOf x → Lays rows s at p vs vs′ out out′ x → Puts rows s at p vs vs′ out out′ r
+pub puts-told : (rows : List Row) (s : List ℕ) (at p : ℕ) (vs vs′ out out′ : List ℕ) (x : Put) (r : Laying) → r ≡ toldOf x → Lays rows s at p vs vs′ out out′ x
+    → Puts rows s at p vs vs′ out out′ r
 puts-told rows s at p vs vs′ out out′ x r e f = subst (Puts rows s at p vs vs′ out out′) (sym e) (go x f)
   where
     go : (x : Put) → Lays rows s at p vs vs′ out out′ x → Puts rows s at p vs vs′ out out′ (toldOf x)
@@ -68,42 +68,36 @@ module _ (n : Refusal) (c : Condition) (s : List ℕ) (at p : ℕ) (vs out : Lis
       }
 
 -- ---- the shapes of the two refusals
-module _ (x : Shape) (s : List ℕ) (at p : ℕ) (vs out : List ℕ) (room : p + span x ≤ length vs) (z : Clear vs p) (t : T (sound x p)) where
-  missing-row : (q : ℕ) → x ≡ Missing q → (r : Laying) → (p < length vs → Puts (refuse NoGroup 1 (is q No ∷ []) ∷ []) s at p vs vs out out r) → Puts (rowsOf x [] p) s at p vs vs out out r
-  unfolding rowsOf span
-  missing-row q e r f =
-      let some : 1 ≡ span x = sym (ap span e) in
-      subst (λ (y : Shape). Puts (rowsOf y [] p) s at p vs vs out out r) (sym e) (f (omega arith))
+module _ (x : Shape) (s : List ℕ) (at p : ℕ) (vs out : List ℕ) (room : p + span x ≤ length vs) (z : Clear vs p) (u : Bool) where
+  refusal-row : (y : Shape) → x ≡ y → span y ≡ 1 → (r : Laying) → (p < length vs → Puts (rowsOf y [] p) s at p vs vs out out r)
+      → Puts (rowsOf x [] p) s at p vs vs out out r
+  refusal-row y e some r f = subst (λ (v : Shape). Puts (rowsOf v [] p) s at p vs vs out out r) (sym e) (f (omega (arith, ap span e)))
 
-  pub puts-missing : (q q′ : ℕ) → x ≡ Missing q → q′ ≡ q → getD vs q′ 0 ≡ 2 → Puts (rowsOf x [] p) s at p vs vs out out laying.NoGroup
-  unfolding present
-  puts-missing q q′ e g h =
-      missing-row q e laying.NoGroup
-      (λ l. bar-group NoGroup (is q No) s at p vs out l z refl (rw (getD-take p vs q 0 (sound-missing x p q e t), eq-eqb (getD vs q 0) 2 (ap (λ (n : ℕ). getD vs n 0) (sym g) ∙ h))))
+  module _ (q : ℕ) (e : x ≡ Missing q) (t : T (sound x p)) (c : u ≡ eqb (getD vs q 0) No) where
+    no-group : present (take p vs) (is q No ∷ []) ≡ u
+    unfolding present
+    no-group = rw (getD-take p vs q 0 (sound-missing x p q e t)) (and-true (eqb (getD vs q 0) No) ∙ sym c)
 
-  pub puts-given : (q q′ : ℕ) → x ≡ Missing q → q′ ≡ q → (getD vs q′ 0 ≡ 2 → ⊥) → Puts (rowsOf x [] p) s at p vs vs out out (laying.Next at)
-  unfolding present
-  puts-given q q′ e g h =
-      missing-row q e (laying.Next at)
-      (λ l. bar-off NoGroup (is q No) s at p vs out l z (rw (getD-take p vs q 0 (sound-missing x p q e t), ne-eqb (getD vs q 0) 2 (λ d. h (ap (λ (n : ℕ). getD vs n 0) g ∙ d)))))
+    pub puts-missing : u ≡ true → Puts (rowsOf x [] p) s at p vs vs out out laying.NoGroup
+    unfolding rowsOf span
+    puts-missing h = refusal-row (Missing q) e refl laying.NoGroup (λ l. bar-group NoGroup (is q No) s at p vs out l z refl (no-group ∙ h))
 
-  nothing-row : (o : ℕ) → x ≡ Nothing o → (r : Laying) → (p < length vs → Puts (refuse NothingFollows 1 (nothingSince o ∷ []) ∷ []) s at p vs vs out out r) → Puts (rowsOf x [] p) s at p vs vs out out r
-  unfolding rowsOf span
-  nothing-row o e r f =
-      let some : 1 ≡ span x = sym (ap span e) in
-      subst (λ (y : Shape). Puts (rowsOf y [] p) s at p vs vs out out r) (sym e) (f (omega arith))
+    pub puts-given : u ≡ false → Puts (rowsOf x [] p) s at p vs vs out out (laying.Next at)
+    unfolding rowsOf span
+    puts-given h = refusal-row (Missing q) e refl (laying.Next at) (λ l. bar-off NoGroup (is q No) s at p vs out l z (no-group ∙ h))
 
-  module _ (o o′ : ℕ) (u : Bool) (e : x ≡ Nothing o) (g : o′ ≡ o) (c : u ≡ all (λ v. eqb v 0) (drop (o′ + 1) (take p vs))) where
+  module _ (o : ℕ) (e : x ≡ Nothing o) (c : u ≡ all (λ v. eqb v 0) (drop (suc o) (take p vs))) where
     since : present (take p vs) (nothingSince o ∷ []) ≡ u
     unfolding present
-    since =
-        and-true (all (λ v. eqb v 0) (drop (suc o) (take p vs))) ∙ ap (λ (n : ℕ). all (λ v. eqb v 0) (drop n (take p vs))) (sym (ap (λ (n : ℕ). n + 1) g ∙ add-one o)) ∙ sym c
+    since = and-true (all (λ v. eqb v 0) (drop (suc o) (take p vs))) ∙ sym c
 
     pub puts-nothing : u ≡ true → Puts (rowsOf x [] p) s at p vs vs out out laying.Bad
-    puts-nothing h = nothing-row o e laying.Bad (λ l. bar-bad NothingFollows (nothingSince o) s at p vs out l z refl (since ∙ h))
+    unfolding rowsOf span
+    puts-nothing h = refusal-row (Nothing o) e refl laying.Bad (λ l. bar-bad NothingFollows (nothingSince o) s at p vs out l z refl (since ∙ h))
 
     pub puts-something : u ≡ false → Puts (rowsOf x [] p) s at p vs vs out out (laying.Next at)
-    puts-something h = nothing-row o e (laying.Next at) (λ l. bar-off NothingFollows (nothingSince o) s at p vs out l z (since ∙ h))
+    unfolding rowsOf span
+    puts-something h = refusal-row (Nothing o) e refl (laying.Next at) (λ l. bar-off NothingFollows (nothingSince o) s at p vs out l z (since ∙ h))
 
 -- ---- under the element's condition
 lay-shape : (x : Shape) (hang : List Condition) (p : ℕ) (done s : List ℕ) → present done hang ≡ true → lay (rowsOf x hang p) done s ≡ lay (rowsOf x [] p) done s
@@ -117,7 +111,8 @@ lay-shape (Missing q) hang p done s e = lay-under 0 0 0 NoGroup 1 (is q No ∷ [
 lay-shape (Nothing o) hang p done s e = lay-under 0 0 0 NothingFollows 1 (nothingSince o ∷ []) hang [] done s e
 
 module _ (w : When) (x : Shape) (s : List ℕ) (at p : ℕ) (vs vs′ out out′ : List ℕ) where
-  pub element-puts : (r : Laying) → Clear vs p → present vs (conditionsOf w) ≡ true → Puts (rowsOf x [] p) s at p vs vs′ out out′ r → Puts (rowsOf x (conditionsOf w) p) s at p vs vs′ out out′ r
+  pub element-puts : (r : Laying) → Clear vs p → present vs (conditionsOf w) ≡ true → Puts (rowsOf x [] p) s at p vs vs′ out out′ r
+      → Puts (rowsOf x (conditionsOf w) p) s at p vs vs′ out out′ r
   element-puts r z e f =
       let same = lay-shape x (conditionsOf w) p (take p vs) (drop p s) (present-when w vs p z ∙ e) in
       let n : length (rowsOf x [] p) ≡ length (rowsOf x (conditionsOf w) p) = length-shape x [] p ∙ sym (length-shape x (conditionsOf w) p) in
@@ -126,7 +121,8 @@ module _ (w : When) (x : Shape) (s : List ℕ) (at p : ℕ) (vs vs′ out out′
             (subst (λ (m : ℕ). Finds (lay (rowsOf x [] p) (take p vs) (drop p s)) m at p vs vs′ out out′ r) n (f .finds));
       }
 
-  pub element-off : Clear vs p → present vs (conditionsOf w) ≡ false → p + span x ≤ length vs → Puts (rowsOf x (conditionsOf w) p) s at p vs vs out out (laying.Next at)
+  pub element-off : Clear vs p → present vs (conditionsOf w) ≡ false → p + span x ≤ length vs
+      → Puts (rowsOf x (conditionsOf w) p) s at p vs vs out out (laying.Next at)
   element-off z e h =
       record {
         finds = passes (laws.laying s) at p (kept vs out) (rowsOf x (conditionsOf w) p) (shut-element w x p vs e z) z (omega (arith, length-shape x (conditionsOf w) p)) .ends;

@@ -8,7 +8,7 @@ use native.Mathlib.Nat.{zero-add, zero-mul}
 use native.Mathlib.Omega.{arith}
 use borrow.Author.Tests.{le-leb, lt-leb}
 use borrow.Rule.Slice.PartMut.{putMid, midOf, postOf}
-use lib.Dec.{T, leb}
+use lib.Dec.{leb}
 use lib.ListN.{length, take, drop, replicate, length-append, length-drop, length-replicate, drop-of-length-le}
 use lib.Seq.{take-at, drop-at, drop-drop, take-all, getD-drop}
 use Rattle.refusal.specs.declared.Refusal.{Refusal}
@@ -25,7 +25,7 @@ use Rattle.layout.specs.declared.Written.the-variants as written
 use Rattle.layout.specs.Row.{all}
 use Rattle.layout.specs.Write.{good, goodButGroup, emit}
 use Rattle.layout.specs.Table.{ssType, actionType}
-use Rattle.layout.specs.Frame.{head, laid, valid, write, judgedOf, writtenOf, outputOf}
+use Rattle.layout.specs.Frame.{head, headBits, laid, valid, write, judgedOf, writtenOf, outputOf}
 use Rattle.writing.specs.Lay.{Over, Walks}
 use Rattle.writing.specs.Whole.{judgedBy, Count, Counts, Bits, Frames}
 use Rattle.writing.proofs.LayLaws.{over-put, over-join}
@@ -53,11 +53,12 @@ module _ (kind : Kind) (s : List ℕ) where
     headed : Over out out₂ 0 (head kind)
     unfolding head
     headed =
-        over-join out out₁ out₂ 0 (digits 6 ssType) (digits 4 (actionType kind)) (subst (λ (x : List ℕ). Over out x 0 (digits 6 ssType)) (sym p) (over-put out 0 6 ssType (omega arith)))
+        over-join out out₁ out₂ 0 (digits 6 ssType) (digits 4 (actionType kind))
+        (subst (λ (x : List ℕ). Over out x 0 (digits 6 ssType)) (sym p) (over-put out 0 6 ssType (omega arith)))
         (subst (λ (n : ℕ). Over out₁ out₂ n (digits 4 (actionType kind))) (sym (ap (λ (n : ℕ). 0 + n) (length-digits 6 ssType)))
         (subst (λ (x : List ℕ). Over out₁ x 6 (digits 4 (actionType kind))) (sym q) (over-put out₁ 6 4 (actionType kind) (omega arith))))
 
-    head-length : length (head kind) ≡ 10
+    head-length : length (head kind) ≡ headBits
     unfolding head
     head-length = length-append (digits 6 ssType) (digits 4 (actionType kind)) ∙ ap₂ _+_ (length-digits 6 ssType) (length-digits 4 (actionType kind))
 
@@ -67,7 +68,11 @@ module _ (kind : Kind) (s : List ℕ) where
         record {
           counts = record {
             judges = judged-as true true (f .outcome .0) (good-coded (laid kind s) (f .outcome .0));
-            count = (f .outcome .0, f .outcome .1 ∙ sym (length-append (head kind) (emit (laid kind s)) ∙ ap (λ (m : ℕ). m + length (emit (laid kind s))) head-length), f .outcome .2);
+            count = (
+              f .outcome .0,
+              f .outcome .1 ∙ sym (length-append (head kind) (emit (laid kind s)) ∙ ap (λ (m : ℕ). m + length (emit (laid kind s))) head-length),
+              f .outcome .2,
+            );
           };
           bits = over-join out out₂ out₃ 0 (head kind) (emit (laid kind s)) headed
               (subst (λ (m : ℕ). Over out₂ out₃ m (emit (laid kind s))) (sym (ap (λ (m : ℕ). 0 + m) head-length)) (f .outcome .3));
@@ -118,7 +123,8 @@ module _ (bits : List Bool) (out out₁ out₂ : List ℕ) (n : ℕ) (over : Ove
       ∙ ap bytesOf
       (ap₂ (λ (a b : List Bool). a ++ b) (ap₂ (λ (a b : List Bool). a ++ b) (ap (take n) first ∙ take-at bits (drop n (bitsOf out)) n (sym size)) (digits-zero w)) after)
       ∙ bytesOf-append (bytesFor n) (bits ++ replicate w false) (bitsOf (drop (bytesFor n) out)) whole
-      ∙ ap₂ (λ (a b : List ℕ). a ++ b) filled (bytes-bits (drop (bytesFor n) out) (λ i. subst (λ (k : ℕ). k < 256) (sym (getD-drop (bytesFor n) out i 0)) (bounded (bytesFor n + i))))
+      ∙ ap₂ (λ (a b : List ℕ). a ++ b) filled
+      (bytes-bits (drop (bytesFor n) out) (λ i. subst (λ (k : ℕ). k < 256) (sym (getD-drop (bytesFor n) out i 0)) (bounded (bytesFor n + i))))
 
 -- ---- what is answered, and what the whole buffer then holds
 module _ (kind : Kind) (s out : List ℕ) (start n : ℕ) (v : judgedOf kind s ≡ judged.Writable) (size : n ≡ length (write kind s)) where
@@ -139,10 +145,12 @@ module _ (kind : Kind) (s out : List ℕ) (start n : ℕ) (v : judgedOf kind s �
   pub past-end : length out < start → (written.Refused NoSpace ≡ writtenOf kind s (length out) start) × (out ≡ outputOf kind s out start)
   past-end h = (no-start h, kept-out (no-start h))
 
-  pub too-few : start ≤ length out → length out - start < bytesFor n → (written.Refused NoSpace ≡ writtenOf kind s (length out) start) × (out ≡ outputOf kind s out start)
+  pub too-few : start ≤ length out → length out - start < bytesFor n
+      → (written.Refused NoSpace ≡ writtenOf kind s (length out) start) × (out ≡ outputOf kind s out start)
   too-few l h = (no-room l h, kept-out (no-room l h))
 
-  pub written-part : start ≤ length out → bytesFor n ≤ length out - start → (k : ℕ) (ys : List ℕ) → length out ≤ start + k → ys ≡ bytesOf (write kind s) ++ drop (bytesFor n) (midOf start k out)
+  pub written-part : start ≤ length out → bytesFor n ≤ length out - start → (k : ℕ) (ys : List ℕ) → length out ≤ start + k
+      → ys ≡ bytesOf (write kind s) ++ drop (bytesFor n) (midOf start k out)
       → (written.Bits n ≡ writtenOf kind s (length out) start) × (putMid start k out ys ≡ outputOf kind s out start)
   unfolding outputOf
   written-part l h k ys j e =
@@ -151,25 +159,20 @@ module _ (kind : Kind) (s out : List ℕ) (start n : ℕ) (v : judgedOf kind s �
       let all-of : midOf start k out ≡ drop start out = take-all k (drop start out) (omega (arith, length-drop start out)) in (
         sym told,
         ap₂ (λ (a b : List ℕ). take start out ++ (a ++ b)) (e ∙ ap (λ (a : List ℕ). bytesOf (write kind s) ++ drop (bytesFor n) a) all-of) nothing
-            ∙ ap (λ (a : List ℕ). take start out ++ a) (append-nil (bytesOf (write kind s) ++ drop (bytesFor n) (drop start out)) ∙ ap (λ (a : List ℕ). bytesOf (write kind s) ++ a) (drop-drop (bytesFor n) start out))
+            ∙ ap (λ (a : List ℕ). take start out ++ a)
+            (append-nil (bytesOf (write kind s) ++ drop (bytesFor n) (drop start out)) ∙ ap (λ (a : List ℕ). bytesOf (write kind s) ++ a) (drop-drop (bytesFor n) start out))
             ∙ rw (told),
       )
 
 -- a record that is refused
-pub refused-record : (kind : Kind) (s out : List ℕ) (start : ℕ) (n : Refusal) → judged.Refused n ≡ judgedOf kind s → (written.Refused n ≡ writtenOf kind s (length out) start) × (out ≡ outputOf kind s out start)
+pub refused-record : (kind : Kind) (s out : List ℕ) (start : ℕ) (n : Refusal) → judged.Refused n ≡ judgedOf kind s
+    → (written.Refused n ≡ writtenOf kind s (length out) start) × (out ≡ outputOf kind s out start)
 unfolding writtenOf outputOf
 refused-record kind s out start n e = (rw (← e), rw (← e))
 
-pub valid-writable : (kind : Kind) (s : List ℕ) → T (valid kind s) → judgedOf kind s ≡ judged.Writable
-unfolding valid judgedOf
-valid-writable kind s t = go (all good (laid kind s)) _ t
-  where
-    go : (b : Bool) (x : Judged) → T b → cond b judged.Writable x ≡ judged.Writable
-    go true x t = refl
-    go false x t = absurd t
-
 -- a writable record's bits are laid
-pub frame-over : (kind : Kind) (s out out′ : List ℕ) (r : Walked) → judgedOf kind s ≡ judged.Writable → Frames kind s out out′ r → Over out out′ 0 (write kind s)
+pub frame-over : (kind : Kind) (s out out′ : List ℕ) (r : Walked) → judgedOf kind s ≡ judged.Writable → Frames kind s out out′ r
+    → Over out out′ 0 (write kind s)
 frame-over kind s out out′ (walked.Bits n) v f = f .bits
 frame-over kind s out out′ walked.Reserved v f = let d = f .counts .judges ∙ v in let z : _≡_ {A = ℕ} 0 1 = cc in absurd (omega arith)
 frame-over kind s out out′ walked.NoGroup v f = let d = f .counts .judges ∙ v in let z : _≡_ {A = ℕ} 0 1 = cc in absurd (omega arith)

@@ -87,8 +87,11 @@ pub fn lay_elements(kind: Kind, values: &[u32], out: &mut [u8]) -> Walked
     let mut place = 0;
     let mut k = 0;
     while k < count {
-        if there(&clean, table[k].0) {
-            match lay_shape(values, &mut clean, out, at, place, table[k].1) {
+        let element = table[k];
+        let when = element.0;
+        if there(&clean, when) {
+            let shape = element.1;
+            match lay_shape(values, &mut clean, out, at, place, shape) {
                 Laying::Next(next) => {
                     at = next;
                 }
@@ -100,7 +103,8 @@ pub fn lay_elements(kind: Kind, values: &[u32], out: &mut [u8]) -> Walked
                 }
             }
         }
-        place += span_of(table[k].1);
+        let shape = element.1;
+        place += span_of(shape);
         k += 1;
     }
     if grouped {

@@ -19,6 +19,7 @@ ghost use lib.ListN.{drop};
 ghost use Rattle.layout.specs.Row.{atLeast};
 ghost use Rattle.layout.specs.Shape.{times, least, stride, identity, item, repeated, rowsOf};
 ghost use Rattle.layout.specs.Write as rules;
+ghost use Rattle.layout.specs.declared.Shape.the-variants as shape;
 ghost use Rattle.table.specs.Fields.{rowFor, Narrow};
 ghost use Rattle.writing.specs.Lay.{Ready, Lays};
 
@@ -187,7 +188,7 @@ pub fn lay_list(
     items: Items,
 ) -> Put
     requires { ⌜ Ready (now values) (now clean) at place (1 + stride items * times items) ⌝ }
-    ensures { λ r. ⌜ Lays (rowsOf (Shape.List items) [] place) (now (values .entry)) at place (now (clean .entry)) (now (clean .exit)) (now (out .entry)) (now (out .exit)) r ⌝ }
+    ensures { λ r. ⌜ Lays (rowsOf (shape.List items) [] place) (now (values .entry)) at place (now (clean .entry)) (now (clean .exit)) (now (out .entry)) (now (out .exit)) r ⌝ }
 {
     match lay_field(values, clean, out, at, place, count_field(items)) {
         Put::Next(next) => lay_items(values, clean, out, next, place, items),

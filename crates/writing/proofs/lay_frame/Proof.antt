@@ -25,8 +25,11 @@ same-length c = search needs
 returns : tie.Need-returns
 returns c =
     let s = c .before .before .before .before .before .before .before .before .before .before .before .before .before .before .before in
-    framed (s .args .kind) (s .args .values .now) (s .args .out .now) (c .before .before .before .before .before .before .before .before .before .before .before .put-field .last .0) (c .before .before .before .before .before .before .put-field2 .last .0) _ (c .before .before .before .before .before .before .before .before .before .before .before .put-field .ensures)
-    (c .before .before .before .before .before .before .put-field2 .ensures ∙ ap (λ v. putAt (c .before .before .before .before .before .before .before .before .before .before .before .put-field .last .0) 6 4 v) (c .before .before .before .before .before .before .before .action-type .ensures)) _ (c .before .before .lay-elements .ensures)
+    let put-field = c .before .before .before .before .before .before .before .before .before .before .before .put-field in
+    let action-type = c .before .before .before .before .before .before .before .action-type in
+    let put-field2 = c .before .before .before .before .before .before .put-field2 in
+    framed (s .args .kind) (s .args .values .now) (s .args .out .now) (put-field .last .0) (put-field2 .last .0) _ (put-field .ensures)
+    (put-field2 .ensures ∙ ap (λ v. putAt (put-field .last .0) 6 4 v) (action-type .ensures)) _ (c .before .before .lay-elements .ensures)
 
 pub lay-frame-spec : {M : Type 1} → statement M
 lay-frame-spec =

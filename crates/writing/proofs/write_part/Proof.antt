@@ -3,7 +3,8 @@
 use Prim.Native.Nat.{_-_}
 use lib.ListN.{length}
 use native.Mathlib.Omega.{arith}
-use Rattle.writing.proofs.WriteLaws.{valid-writable, past-end, too-few, written-part}
+use Rattle.layout.proofs.Frames.{valid-judged}
+use Rattle.writing.proofs.WriteLaws.{past-end, too-few, written-part}
 use borrow.Author.Needs.{needs}
 use Rattle.writing.proofs.write_part.Statement.{statement}
 use Rattle.writing.proofs.write_part.Tie as tie
@@ -11,7 +12,8 @@ use Rattle.writing.proofs.write_part.Tie as tie
 returns : tie.Need-returns
 returns c =
     let s = c .before .before .before in
-    past-end (s .args .kind) (s .args .values .now) (s .args .out .now) (s .args .start) (s .args .bits) (valid-writable (s .args .kind) (s .args .values .now) (s .pre .1)) (s .pre .2) (c .if1 .taken)
+    past-end (s .args .kind) (s .args .values .now) (s .args .out .now) (s .args .start) (s .args .bits)
+    (valid-judged (s .args .kind) (s .args .values .now) (s .pre .1)) (s .pre .2) (c .if1 .taken)
 
 sub-if2 : tie.Need-sub-if2
 sub-if2 c = search needs
@@ -22,7 +24,8 @@ add-if2 c = search needs
 returns-2 : tie.Need-returns-2
 returns-2 c =
     let s = c .before .before .before .before in
-    too-few (s .args .kind) (s .args .values .now) (s .args .out .now) (s .args .start) (s .args .bits) (valid-writable (s .args .kind) (s .args .values .now) (s .pre .1)) (s .pre .2) (c .before .if1 .left) (c .if2 .taken)
+    too-few (s .args .kind) (s .args .values .now) (s .args .out .now) (s .args .start) (s .args .bits)
+    (valid-judged (s .args .kind) (s .args .values .now) (s .pre .1)) (s .pre .2) (c .before .if1 .left) (c .if2 .taken)
 
 sub-lay-whole : tie.Need-sub-lay-whole
 sub-lay-whole c = search needs
@@ -42,7 +45,10 @@ same-length c = search needs
 returns-3 : tie.Need-returns-3
 returns-3 c =
     let s = c .before .before .before .before .before .before .before .before in
-    written-part (s .args .kind) (s .args .values .now) (s .args .out .now) (s .args .start) (s .args .bits) (valid-writable (s .args .kind) (s .args .values .now) (s .pre .1)) (s .pre .2) (c .before .before .before .before .before .if1 .left) (c .before .before .before .before .if2 .left) (length (s .args .out .now) - s .args .start) _
+    let if1 = c .before .before .before .before .before .if1 in
+    let if2 = c .before .before .before .before .if2 in
+    written-part (s .args .kind) (s .args .values .now) (s .args .out .now) (s .args .start) (s .args .bits)
+    (valid-judged (s .args .kind) (s .args .values .now) (s .pre .1)) (s .pre .2) (if1 .left) (if2 .left) (length (s .args .out .now) - s .args .start) _
     (omega arith) (c .before .before .lay-whole .ensures)
 
 pub write-part-spec : {M : Type 1} → statement M

@@ -28,13 +28,17 @@ same-length-2 c = search needs
 returns : tie.Need-returns
 returns c =
     let s = c .before .before .before .before .before .before .before .before .before .before .before .before in
-    extension-on (laying (s .args .values .now)) (s .args .place) (kept (s .args .clean .now) (s .args .out .now)) (omega (arith, s .pre .size, s .pre .room)) (s .args .at)
-    (kept (c .before .before .before .before .lay-field .last .1 .0) (c .before .before .before .before .lay-field .last .1 .1 .0)) _ (c .before .before .before .before .before .before .before .if1 .taken) (c .before .before .before .before .lay-field .ensures)
+    let if1 = c .before .before .before .before .before .before .before .if1 in
+    let lay-field = c .before .before .before .before .lay-field in
+    extension-on (laying (s .args .values .now)) (s .args .place) (kept (s .args .clean .now) (s .args .out .now)) (omega (arith, s .pre .size, s .pre .room))
+    (s .args .at)
+    (kept (lay-field .last .1 .0) (lay-field .last .1 .1 .0)) _ (if1 .taken) (lay-field .ensures)
 
 returns-2 : tie.Need-returns-2
 returns-2 c =
     let s = c .before .before .before .before .before in
-    extension-off (laying (s .args .values .now)) (s .args .place) (kept (s .args .clean .now) (s .args .out .now)) (omega (arith, s .pre .size, s .pre .room)) (s .args .at) (c .if1 .left) (s .pre .clear)
+    extension-off (laying (s .args .values .now)) (s .args .place) (kept (s .args .clean .now) (s .args .out .now)) (omega (arith, s .pre .size, s .pre .room))
+    (s .args .at) (c .if1 .left) (s .pre .clear)
 
 pub lay-extension-spec : {M : Type 1} → statement M
 lay-extension-spec =

@@ -18,12 +18,15 @@ held-requires c κs = search needs
 returns : tie.Need-returns
 returns c =
     let s = c .before .before .before .before .before .before in
-    field-low (s .args .field) (s .args .values .now) (s .args .at) (s .args .place) (s .args .clean .now) (s .args .out .now) (omega (arith, s .pre .0 .size, s .pre .0 .room)) (s .pre .1) _ (c .before .held .ensures) (c .if1 .taken)
+    field-low (s .args .field) (s .args .values .now) (s .args .at) (s .args .place) (s .args .clean .now) (s .args .out .now)
+    (omega (arith, s .pre .0 .size, s .pre .0 .room)) (s .pre .1) _ (c .before .held .ensures) (c .if1 .taken)
 
 returns-2 : tie.Need-returns-2
 returns-2 c =
     let s = c .before .before .before .before .before .before .before .before in
-    field-high (s .args .field) (s .args .values .now) (s .args .at) (s .args .place) (s .args .clean .now) (s .args .out .now) (omega (arith, s .pre .0 .size, s .pre .0 .room)) (s .pre .1) _ (c .before .before .before .held .ensures) (c .before .before .if1 .left) (c .if2 .taken)
+    let held = c .before .before .before .held in
+    field-high (s .args .field) (s .args .values .now) (s .args .at) (s .args .place) (s .args .clean .now) (s .args .out .now)
+    (omega (arith, s .pre .0 .size, s .pre .0 .room)) (s .pre .1) _ (held .ensures) (c .before .before .if1 .left) (c .if2 .taken)
 
 mul-clean : tie.Need-mul-clean
 mul-clean c = search needs
@@ -46,7 +49,11 @@ same-length-2 c = search needs
 returns-3 : tie.Need-returns-3
 returns-3 c =
     let s = c .before .before .before .before .before .before .before .before .before .before .before .before in
-    field-laid (s .args .field) (s .args .values .now) (s .args .at) (s .args .place) (s .args .clean .now) (s .args .out .now) (omega (arith, s .pre .0 .size, s .pre .0 .room)) (s .pre .1) _ (c .before .before .before .before .before .before .before .held .ensures) (c .before .before .before .before .before .before .if1 .left) (c .before .before .before .before .if2 .left) _ (c .before .before .put-field .ensures)
+    let held = c .before .before .before .before .before .before .before .held in
+    let if1 = c .before .before .before .before .before .before .if1 in
+    let if2 = c .before .before .before .before .if2 in
+    field-laid (s .args .field) (s .args .values .now) (s .args .at) (s .args .place) (s .args .clean .now) (s .args .out .now)
+    (omega (arith, s .pre .0 .size, s .pre .0 .room)) (s .pre .1) _ (held .ensures) (if1 .left) (if2 .left) _ (c .before .before .put-field .ensures)
 
 pub lay-field-spec : {M : Type 1} → statement M
 lay-field-spec =

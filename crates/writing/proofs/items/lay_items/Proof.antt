@@ -1,18 +1,19 @@
 -- `writing::items::lay_items` meets its contract. The loop's invariant: i items are laid, and the next begins at `place`.
 -- Assumes nothing.
-use Prim.Native.Nat.{_-_, _≤_}
-use mathlib.Core.Path.{_≡_, _∙_}
+use Prim.Native.Nat.{_-_, _≤_, _<_}
+use mathlib.Core.Path.{_≡_}
 use native.Mathlib.Omega.{arith}
 use Rattle.layout.specs.Shape.{times}
-use Rattle.writing.proofs.LayLaws.{laying, kept, lays-size, lays-out}
+use Rattle.writing.proofs.LayLaws.{laying, kept}
 use Rattle.writing.proofs.LayLists.{listing-ready}
-use Rattle.table.proofs.ListLaws.{Listing, listing-none, listing-more, listing-stop, times-most}
+use Rattle.table.proofs.ListLaws.{Listing, listing-none, listing-more, listing-stop}
 use borrow.Author.Needs.{needs}
 use Rattle.writing.proofs.items.lay_items.Statement.{statement}
 use Rattle.writing.proofs.items.lay_items.Tie as tie
 
 abbrev Inv-loop : tie.InvT-loop
-Inv-loop values clean₀ out₀ from count items many each place₀ at₀ i₀ clean out place at i = Listing (laying values) items from count (kept clean₀ out₀) (kept clean out) at place i × (i ≤ many)
+Inv-loop values clean₀ out₀ from count items many each place₀ at₀ i₀ clean out place at i =
+    Listing (laying values) items from count (kept clean₀ out₀) (kept clean out) at place i × (i ≤ many)
 
 abbrev μ-loop : tie.MeasureT-loop
 μ-loop values clean₀ out₀ from count items many each place₀ at₀ i₀ clean out place at i = many - i
@@ -28,18 +29,21 @@ add-place c = omega (arith, c .before .before .before .before .before .pre .room
 
 loop-holds : tie.Need-loop-holds Inv-loop μ-loop
 loop-holds c =
-    let s = c .before .before .before .before .before in
-    (listing-none (laying (s .args .values .now)) (s .args .items) (s .args .from) (s .args .count) (kept (s .args .clean .now) (s .args .out .now)) (s .pre .clear), omega arith)
+    let s = c .before .before .before .before .before in (
+      listing-none (laying (s .args .values .now)) (s .args .items) (s .args .from) (s .args .count) (kept (s .args .clean .now) (s .args .out .now))
+          (s .pre .clear),
+      omega arith,
+    )
 
 lay-listed-requires : tie.Need-lay-listed-requires Inv-loop μ-loop
 lay-listed-requires c κs =
     let s = c .before .before .before .before .before .before .before .before .before in
-    let l = c .before .before .before .loop in
-    let many = c .before .before .before .before .before .times-of .ensures in
-    let less = c .before .before .loop-test .taken in (
-      listing-ready (s .args .values .now) (s .args .items) (s .args .from) (s .args .count) (s .args .clean .now) (s .args .out .now) (l .clean) (l .out) (l .at) (l .place) (l .i)
-          (times (s .args .items)) (s .pre) (l .inv .0) (omega arith),
-      omega (arith, times-most (s .args .items)),
+    let i = c .before .before in
+    let l = i .before .loop in
+    let many = i .before .before .before .times-of .ensures in
+    let less = i .loop-test .taken in (
+      listing-ready (s .args .values .now) (s .args .items) (s .args .from) (s .args .count) (s .args .clean .now) (s .args .out .now) (l .clean) (l .out)
+          (l .at) (l .place) (l .i) (times (s .args .items)) (s .pre) (l .inv .0) (omega arith),
       omega (arith, l .inv .0 .place),
     )
 
@@ -49,41 +53,52 @@ enum-known-next c = search needs
 enum-told : tie.Need-enum-told Inv-loop μ-loop
 enum-told c = search needs
 
-same-length : tie.Need-same-length Inv-loop μ-loop
-same-length c = lays-size _ _ _ _ _ _ _ _ _ (c .before .before .before .before .before .before .lay-listed .ensures) ∙ c .before .before .before .before .before .before .before .before .before .before .loop .inv .0 .size
-
-same-length-2 : tie.Need-same-length-2 Inv-loop μ-loop
-same-length-2 c = lays-out _ _ _ _ _ _ _ _ _ (c .before .before .before .before .before .before .lay-listed .ensures) ∙ c .before .before .before .before .before .before .before .before .before .before .loop .inv .0 .goes .ends .0 .over .size
-
 returns : tie.Need-returns Inv-loop μ-loop
 returns c =
-    let s = c .before .before .before .before .before .before .before .before .before .before .before .before .before .before .before .before in
-    let l = c .before .before .before .before .before .before .before .before .before .before .loop in
-    listing-stop (laying (s .args .values .now)) (s .args .items) (s .args .from) (s .args .count) (kept (s .args .clean .now) (s .args .out .now)) (kept (l .clean) (l .out))
-    (kept (c .before .before .before .before .before .before .lay-listed .last .1 .0) (c .before .before .before .before .before .before .lay-listed .last .1 .1 .0)) (l .at) (l .place) (l .i) _ (l .inv .0) (c .before .before .before .before .before .before .lay-listed .ensures) _ (times (s .args .items)) (c .enum-told .given .1) tt
-    (omega (arith, c .before .before .before .before .before .before .before .before .before .loop-test .taken, c .before .before .before .before .before .before .before .before .before .before .before .before .times-of .ensures))
+    let i = c .before .before .before .before .before .before .before .before .before in
+    let s = i .before .before .before .before .before .before .before in
+    let l = i .before .loop in
+    let laid = c .before .before .before .before .before .before .lay-listed in
+    listing-stop (laying (s .args .values .now)) (s .args .items) (s .args .from) (s .args .count) (kept (s .args .clean .now) (s .args .out .now))
+    (kept (l .clean) (l .out)) (kept (laid .last .1 .0) (laid .last .1 .1 .0)) (l .at) (l .place) (l .i) _ (l .inv .0) (laid .ensures) _
+    (times (s .args .items)) (c .enum-told .given .1) tt (omega (arith, i .loop-test .taken, i .before .before .before .times-of .ensures))
+
+same-length : tie.Need-same-length Inv-loop μ-loop
+same-length c = returns c .ends .2
+
+same-length-2 : tie.Need-same-length-2 Inv-loop μ-loop
+same-length-2 c = returns c .ends .1
 
 add-place-2 : tie.Need-add-place-2 Inv-loop μ-loop
 add-place-2 c =
-    let s = c .before .before .before .before .before .before .before .before .before .before .before .before .before .before .before .before .before in
-    let l = c .before .before .before .before .before .before .before .before .before .before .before .loop in
-    let now = listing-ready (s .args .values .now) (s .args .items) (s .args .from) (s .args .count) (s .args .clean .now) (s .args .out .now) (l .clean) (l .out) (l .at) (l .place) (l .i)
-    (times (s .args .items)) (s .pre) (l .inv .0) (omega (arith, c .before .before .before .before .before .before .before .before .before .before .before .before .before .times-of .ensures, c .before .before .before .before .before .before .before .before .before .before .loop-test .taken)) in
-    omega (arith, c .before .before .before .before .before .before .before .before .before .before .before .before .stride-of .ensures, now .room)
+    let i = c .before .before .before .before .before .before .before .before .before .before in
+    let s = i .before .before .before .before .before .before .before in
+    let l = i .before .loop in
+    let less : l .i < times (s .args .items) = omega (arith, i .before .before .before .times-of .ensures, i .loop-test .taken) in
+    let now = listing-ready (s .args .values .now) (s .args .items) (s .args .from) (s .args .count) (s .args .clean .now) (s .args .out .now) (l .clean)
+    (l .out) (l .at) (l .place) (l .i) (times (s .args .items)) (s .pre) (l .inv .0) less in
+    omega (arith, i .before .before .stride-of .ensures, now .room)
 
 add-i : tie.Need-add-i Inv-loop μ-loop
-add-i c = omega (arith, c .before .before .before .before .before .before .before .before .before .before .loop-test .taken)
+add-i c =
+    let i = c .before .before .before .before .before .before .before .before .before .before in
+    omega (arith, i .loop-test .taken)
 
 loop-less : tie.Need-loop-less Inv-loop μ-loop
-loop-less c = omega (arith, c .before .before .before .before .before .before .before .before .before .before .loop-test .taken)
+loop-less c =
+    let i = c .before .before .before .before .before .before .before .before .before .before in
+    omega (arith, i .loop-test .taken)
 
 loop-again : tie.Need-loop-again Inv-loop μ-loop
 loop-again c =
-    let s = c .before .before .before .before .before .before .before .before .before .before .before .before .before .before .before .before .before in
-    let l = c .before .before .before .before .before .before .before .before .before .before .before .loop in (
-      listing-more (laying (s .args .values .now)) (s .args .items) (s .args .from) (s .args .count) (kept (s .args .clean .now) (s .args .out .now)) (kept (l .clean) (l .out))
-          (kept (c .before .before .before .before .before .before .before .lay-listed .last .1 .0) (c .before .before .before .before .before .before .before .lay-listed .last .1 .1 .0)) (l .at) (l .place) (l .i) _ (l .inv .0) (c .before .before .before .before .before .before .before .lay-listed .ensures) _ _ (c .before .next .given .1) (c .before .before .before .before .before .before .before .before .before .before .before .before .stride-of .ensures),
-      omega (arith, c .before .before .before .before .before .before .before .before .before .before .loop-test .taken),
+    let i = c .before .before .before .before .before .before .before .before .before .before in
+    let s = i .before .before .before .before .before .before .before in
+    let l = i .before .loop in
+    let laid = c .before .before .before .before .before .before .before .lay-listed in (
+      listing-more (laying (s .args .values .now)) (s .args .items) (s .args .from) (s .args .count) (kept (s .args .clean .now) (s .args .out .now))
+          (kept (l .clean) (l .out)) (kept (laid .last .1 .0) (laid .last .1 .1 .0)) (l .at) (l .place) (l .i) _ (l .inv .0) (laid .ensures) _ _
+          (c .before .next .given .1) (i .before .before .stride-of .ensures),
+      omega (arith, i .loop-test .taken),
     )
 
 same-length-3 : tie.Need-same-length-3 Inv-loop μ-loop

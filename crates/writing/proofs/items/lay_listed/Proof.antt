@@ -28,13 +28,17 @@ same-length-2 c = search needs
 returns : tie.Need-returns
 returns c =
     let s = c .before .before .before .before .before .before .before .before .before .before .before .before .before in
-    item-on (laying (s .args .values .now)) (s .args .items) (s .args .count) (s .args .place) _ (kept (s .args .clean .now) (s .args .out .now)) (s .pre .2) (s .args .at)
-    (kept (c .before .before .before .before .lay-item .last .1 .0) (c .before .before .before .before .lay-item .last .1 .1 .0)) _ (omega (arith, c .before .before .before .before .before .before .before .before .before .least-for .ensures)) (c .before .before .before .before .lay-item .ensures)
+    let least-for = c .before .before .before .before .before .before .before .before .before .least-for in
+    let lay-item = c .before .before .before .before .lay-item in
+    item-on (laying (s .args .values .now)) (s .args .items) (s .args .count) (s .args .place) _ (kept (s .args .clean .now) (s .args .out .now)) (s .pre .1)
+    (s .args .at)
+    (kept (lay-item .last .1 .0) (lay-item .last .1 .1 .0)) _ (omega (arith, least-for .ensures)) (lay-item .ensures)
 
 returns-2 : tie.Need-returns-2
 returns-2 c =
     let s = c .before .before .before .before .before .before in
-    item-off (laying (s .args .values .now)) (s .args .items) (s .args .count) (s .args .place) _ (kept (s .args .clean .now) (s .args .out .now)) (s .pre .2) (s .args .at)
+    item-off (laying (s .args .values .now)) (s .args .items) (s .args .count) (s .args .place) _ (kept (s .args .clean .now) (s .args .out .now)) (s .pre .1)
+    (s .args .at)
     (omega (arith, c .before .before .least-for .ensures)) (s .pre .0 .clear) (omega (arith, s .pre .0 .size, s .pre .0 .room))
 
 pub lay-listed-spec : {M : Type 1} → statement M
