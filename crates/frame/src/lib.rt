@@ -6,9 +6,8 @@ pub use layout::Reading;
 pub use layout::Record;
 pub use layout::Verdict;
 pub use layout::Written;
-pub use table::place;
-
 use reading::read_frame;
+pub use table::place;
 use writing::judge_record;
 use writing::write_record;
 ghost use mathlib.Core.Path.{_≡_};

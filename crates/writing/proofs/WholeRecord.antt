@@ -28,8 +28,7 @@ use Rattle.layout.proofs.Tests.{and-true, and-false, all-append, all-weaker}
 use Rattle.table.proofs.Absent.{length-shape}
 use Rattle.table.proofs.Walks.{clear-later}
 use Rattle.writing.proofs.LayLaws.{lay-append, lies-none, lies-join}
-use Rattle.writing.proofs.LayShapes.{element-puts, element-off}
-use Rattle.table.proofs.TableLaws.{Held, Placed, placed-none, placed-sound, placed-room, placed-more, first}
+use Rattle.table.proofs.TableLaws.{Held, Placed, placed-none, placed-span, placed-sound, placed-room, placed-more, first}
 
 -- what has a code has one or is the missing group's
 pub good-coded : (l : List Laid) → all good l ≡ true → all goodButGroup l ≡ true
@@ -44,12 +43,6 @@ pub record Wrote (es : List Element) (s out₀ vs out : List ℕ) (grouped : Boo
   pub placed : Placed es p k
   pub clear : Clear vs p
   pub passed : k ≤ length es
-
--- the same under other names
-pub wrote-as : {es : List Element} {s out₀ vs vs′ out out′ : List ℕ} {grouped grouped′ : Bool} {at at′ p k : ℕ} → vs′ ≡ vs → out′ ≡ out → grouped′ ≡ grouped
-    → at′ ≡ at
-    → Wrote es s out₀ vs out grouped at p k → Wrote es s out₀ vs′ out′ grouped′ at′ p k
-wrote-as a b c d now = rw (a, b, c, d) now
 
 -- ---- before the first element
 module _ (kind : Kind) (es : List Element) (s out : List ℕ) (same : es ≡ tableOf kind) where
@@ -151,20 +144,14 @@ module _ {kind : Kind} {table : List Element} {count : ℕ} (held : Held kind ta
           subst (λ (b : Bool). Wrote (take count table) s out₀ vs′ out′ b at′ (p + w) (k + 1)) (and-true grouped)
           (more true at′ (g .finds .0) (g .finds .1) (good-coded here (g .finds .1)))
 
-    -- an element that is not there is passed
-    pub turn-off : {w : ℕ} → w ≡ span (shapeAt table k) → present vs (conditionsOf (whenAt table k)) ≡ false
-        → Wrote (take count table) s out₀ vs out grouped at (p + w) (k + 1)
-    turn-off {w} d e =
-        on vs out w d at
-        (element-off (whenAt table k) (shapeAt table k) s at p vs vs out out (now .clear) e (omega (arith, turn-room, now .lies .size)))
+    -- the places that it takes
+    pub turn-span : getD table k past .2 ≡ span (shapeAt table k)
+    turn-span = placed-span (take count table) p k (getD table k past) (now .placed) inside (held .at k less)
 
-    -- one that is there, by what the laying of its shape finds
-    module _ {vs′ out′ : List ℕ} {r : Laying} (there : present vs (conditionsOf (whenAt table k)) ≡ true)
-        (f : Puts (rowsOf (shapeAt table k) [] p) s at p vs vs′ out out′ r) where
+    -- by what its laying finds
+    module _ {vs′ out′ : List ℕ} {r : Laying} (f : Puts (rowsAt table k p) s at p vs vs′ out out′ r) where
       puts : (x : Laying) → r ≡ x → Puts (rowsAt table k p) s at p vs vs′ out out′ x
-      puts x e =
-          subst (Puts (rowsAt table k p) s at p vs vs′ out out′) e
-          (element-puts (whenAt table k) (shapeAt table k) s at p vs vs′ out out′ r (now .clear) there f)
+      puts x e = subst (Puts (rowsAt table k p) s at p vs vs′ out out′) e f
 
       pub turn-next : {w at′ : ℕ} → w ≡ span (shapeAt table k) → r ≡ laying.Next at′ → Wrote (take count table) s out₀ vs′ out′ grouped at′ (p + w) (k + 1)
       turn-next {w} {at′} d e = on vs′ out′ w d at′ (puts (laying.Next at′) e)

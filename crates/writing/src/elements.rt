@@ -6,6 +6,7 @@ use crate::Walked;
 use crate::items::lay_field;
 use crate::items::lay_identity;
 use crate::items::lay_list;
+use layout::Element;
 use layout::Kind;
 use layout::PLACES;
 use layout::Shape;
@@ -13,7 +14,6 @@ use table::fields::M_BIT;
 use table::fields::choice;
 use table::fields::number;
 use table::lines::count_of;
-use table::lines::span_of;
 use table::lines::table_of;
 use table::place::NO;
 use table::tests::holds;
@@ -24,7 +24,7 @@ ghost use mathlib.Core.List.{[]};
 ghost use lib.Dec.{T};
 ghost use lib.ListN.{length};
 ghost use Rattle.layout.specs.Frame.{places, laid};
-ghost use Rattle.layout.specs.Shape.{rowsOf, span};
+ghost use Rattle.layout.specs.Shape.{rowsOf, span, conditionsOf};
 ghost use Rattle.table.specs.Sound.{sound};
 ghost use Rattle.writing.specs.Lay.{Ready, Puts, toldOf, Walks};
 
@@ -74,6 +74,27 @@ fn lay_shape(
     }
 }
 
+// An element: its rows if it is there, else nothing.
+fn lay_element(
+    values: &[u32],
+    clean: &mut [u32],
+    out: &mut [u8],
+    at: usize,
+    place: usize,
+    element: Element,
+) -> Laying
+    requires { ⌜ Ready (now values) (now clean) at place (span (element .1)) × T (sound (element .1) place) ⌝ }
+    ensures { λ r. ⌜ Puts (rowsOf (element .1) (conditionsOf (element .0)) place) (now (values .entry)) at place (now (clean .entry)) (now (clean .exit)) (now (out .entry)) (now (out .exit)) r ⌝ }
+{
+    let when = element.0;
+    let shape = element.1;
+    if there(&*clean, when) {
+        lay_shape(values, clean, out, at, place, shape)
+    } else {
+        Laying::Next(at)
+    }
+}
+
 // The elements of a kind's table, after the head.
 pub fn lay_elements(kind: Kind, values: &[u32], out: &mut [u8]) -> Walked
     requires { ⌜ length (now values) ≡ places ⌝ }
@@ -88,24 +109,20 @@ pub fn lay_elements(kind: Kind, values: &[u32], out: &mut [u8]) -> Walked
     let mut k = 0;
     while k < count {
         let element = table[k];
-        let when = element.0;
-        if there(&clean, when) {
-            let shape = element.1;
-            match lay_shape(values, &mut clean, out, at, place, shape) {
-                Laying::Next(next) => {
-                    at = next;
-                }
-                Laying::NoGroup => {
-                    grouped = false;
-                }
-                Laying::Bad => {
-                    return Walked::Reserved;
-                }
+        let here = place;
+        place += element.2 as usize;
+        k += 1;
+        match lay_element(values, &mut clean, out, at, here, element) {
+            Laying::Next(next) => {
+                at = next;
+            }
+            Laying::NoGroup => {
+                grouped = false;
+            }
+            Laying::Bad => {
+                return Walked::Reserved;
             }
         }
-        let shape = element.1;
-        place += span_of(shape);
-        k += 1;
     }
     if grouped {
         Walked::Bits(at)

@@ -9,24 +9,16 @@ use Rattle.reading.proofs.Going.{head-cut, head-short, head-type, head-
 use borrow.Author.Needs.{needs}
 use Rattle.reading.proofs.read_head.Statement.{statement}
 use Rattle.reading.proofs.read_head.Tie as tie
-use Rattle.reading.proofs.read_head.Reads as reads
-use Rattle.reading.proofs.read_head.Lts as lts
-use Rattle.bits.proofs.first_two.Reads as first-two-reads
-use Rattle.table.proofs.lines.action_type.Reads as action-type-reads
 
--- src/lib.rt:41:9
 first-two-requires : tie.Need-first-two-requires
 first-two-requires c κs = search needs
 
--- src/lib.rt:45:22
 enum-known-first : tie.Need-enum-known-first
 enum-known-first c = search needs
 
--- src/lib.rt:46:26
 enum-known-second : tie.Need-enum-known-second
 enum-known-second c = search needs
 
--- src/lib.rt:48:21
 returns : tie.Need-returns
 returns c =
     let s = c .before .before .before .before .before .before .before .before .before in
@@ -35,11 +27,9 @@ returns c =
     let y = seen (s .args .frame .now) (s .args .bits) 6 4 (s .pre) (omega arith) (Value _) (sym (c .before .before .second .given .1) ∙ ap (λ (t : Two). t .second) two) in
     head-type (s .args .kind) (s .args .frame .now) (s .args .bits) (s .pre) (y .0) _ _ (x .1) (y .1) (c .if1 .taken)
 
--- src/lib.rt:50:30
 action-type-requires : tie.Need-action-type-requires
 action-type-requires c κs = search needs
 
--- src/lib.rt:51:21
 returns-2 : tie.Need-returns-2
 returns-2 c =
     let s = c .before .before .before .before .before .before .before .before .before .before .before in
@@ -49,15 +39,12 @@ returns-2 c =
     head-action (s .args .kind) (s .args .frame .now) (s .args .bits) (s .pre) (y .0) _ _ (x .1) (y .1) (c .before .before .if1 .left)
     (λ e. c .if2 .taken (e ∙ sym (c .before .action-type .ensures)))
 
--- src/lib.rt:55:41
 enum-told : tie.Need-enum-told
 enum-told c = search needs
 
--- src/lib.rt:57:37
 enum-told-2 : tie.Need-enum-told-2
 enum-told-2 c = search needs
 
--- src/lib.rt:37:1
 returns-3 : tie.Need-returns-3
 returns-3 c =
     let s = c .before .before .before .before .before .before .before .before .before .before .before in
@@ -67,7 +54,6 @@ returns-3 c =
     head-good (s .args .kind) (s .args .frame .now) (s .args .bits) (s .pre) (y .0) _ _ (x .1) (y .1) (c .before .before .if1 .left)
     (c .if2 .left ∙ c .before .action-type .ensures)
 
--- src/lib.rt:37:1
 returns-4 : tie.Need-returns-4
 returns-4 c =
     let s = c .before .before .before .before .before .before .before in
@@ -76,7 +62,6 @@ returns-4 c =
     let y = seen (s .args .frame .now) (s .args .bits) 6 4 (s .pre) (omega arith) Cut (sym (c .enum-told .given .1) ∙ ap (λ (t : Two). t .second) two) in
     head-short (s .args .kind) (s .args .frame .now) (s .args .bits) (s .pre) (x .0) y
 
--- src/lib.rt:37:1
 returns-5 : tie.Need-returns-5
 returns-5 c =
     let s = c .before .before .before .before in

@@ -13,107 +13,77 @@ use Rattle.reading.proofs.RefusalLaws.{shape-missing, shape-nothing}
 use borrow.Author.Needs.{needs}
 use Rattle.reading.proofs.elements.read_shape.Statement.{statement}
 use Rattle.reading.proofs.elements.read_shape.Tie as tie
-use Rattle.reading.proofs.elements.read_shape.Reads as reads
-use Rattle.reading.proofs.elements.read_shape.Lts as lts
-use Rattle.reading.proofs.elements.barred.Reads as barred-reads
-use Rattle.reading.proofs.items.read_field.Reads as read-field-reads
-use Rattle.reading.proofs.items.read_identity.Reads as read-identity-reads
-use Rattle.reading.proofs.items.read_list.Reads as read-list-reads
-use Rattle.table.proofs.fields.choice.Reads as choice-reads
-use Rattle.table.proofs.fields.number.Reads as number-reads
-use Rattle.table.proofs.tests.holds.Reads as holds-reads
-use Rattle.table.proofs.tests.nothing_since.Reads as nothing-since-reads
 
--- src/elements.rt:62:23
 enum-known-shape : tie.Need-enum-known-shape
 enum-known-shape c = search needs
 
--- src/elements.rt:62:72
 number-requires : tie.Need-number-requires
 number-requires c κs = search needs
 
--- src/elements.rt:62:29
 read-field-requires : tie.Need-read-field-requires
 read-field-requires c κs =
     let s = c .before .before .before .before .before .before .before in
     let f = sound-number (s .args .shape) (s .args .place) _ (c .before .before .before .shape .given .1) (s .pre .3) in
     (s .pre .0, omega (arith, span-some (s .args .shape)), subst Narrow (sym (c .number .ensures)) (number-narrow _ (f .0) (f .1)))
 
--- src/elements.rt:63:23
 enum-known-shape-2 : tie.Need-enum-known-shape-2
 enum-known-shape-2 c = search needs
 
--- src/elements.rt:63:75
 choice-requires : tie.Need-choice-requires
 choice-requires c κs = search needs
 
--- src/elements.rt:63:32
 read-field-requires-2 : tie.Need-read-field-requires-2
 read-field-requires-2 c κs =
     let s = c .before .before .before .before .before .before .before in
     let f = sound-choice (s .args .shape) (s .args .place) _ _ (c .before .before .before .shape2 .given .1) (s .pre .3) in
     (s .pre .0, omega (arith, span-some (s .args .shape)), subst Narrow (sym (c .choice .ensures)) (choice-narrow _ (f .0) (f .1) _ (omega arith)))
 
--- src/elements.rt:64:59
 enum-told : tie.Need-enum-told
 enum-told c = search needs
 
--- src/elements.rt:64:28
 read-identity-requires : tie.Need-read-identity-requires
 unfolding span
 read-identity-requires c κs =
     let s = c .before .before .before .before .before in
     (s .pre .0, omega (arith, ap span (c .before .enum-told .given .1)), s .pre .2)
 
--- src/elements.rt:65:21
 enum-known-shape-3 : tie.Need-enum-known-shape-3
 enum-known-shape-3 c = search needs
 
--- src/elements.rt:65:31
 read-list-requires : tie.Need-read-list-requires
 read-list-requires c κs =
     let s = c .before .before .before .before .before .before in
     (s .pre .0, omega (arith, list-room (s .args .shape) _ (c .before .before .shape3 .given .1)), s .pre .2)
 
--- src/elements.rt:66:54
 enum-told-2 : tie.Need-enum-told-2
 enum-told-2 c = search needs
 
--- src/elements.rt:66:26
 read-field-requires-3 : tie.Need-read-field-requires-3
 read-field-requires-3 c κs =
     let s = c .before .before .before .before .before in
     (s .pre .0, omega (arith, span-some (s .args .shape)), record { some = omega arith; few = omega arith; low = omega arith; plain = refl })
 
--- src/elements.rt:67:24
 enum-known-shape-4 : tie.Need-enum-known-shape-4
 enum-known-shape-4 c = search needs
 
--- src/elements.rt:67:37
 holds-requires : tie.Need-holds-requires
 holds-requires c κs = search needs
 
--- src/elements.rt:67:30
 barred-requires : tie.Need-barred-requires
 barred-requires c κs = search needs
 
--- src/elements.rt:68:24
 enum-known-shape-5 : tie.Need-enum-known-shape-5
 enum-known-shape-5 c = search needs
 
--- src/elements.rt:69:13
 nothing-since-requires : tie.Need-nothing-since-requires
 nothing-since-requires c κs = search needs
 
--- src/elements.rt:68:30
 barred-requires-2 : tie.Need-barred-requires-2
 barred-requires-2 c κs = search needs
 
--- src/elements.rt:50:1
 same-length : tie.Need-same-length
 same-length c = search needs
 
--- src/elements.rt:50:1
 returns : tie.Need-returns
 returns c =
     let s = c .before .before .before .before .before .before .before .before .before .before in
@@ -121,66 +91,54 @@ returns c =
     shape-number (reading (whole (s .args .frame .now) (s .args .bits))) (s .args .shape) (s .args .at) (s .args .place) (s .args .values .now) _ _ _ _ _
     (c .before .before .before .before .before .before .shape .given .1) refl (ap (λ x. rowFor x []) (c .before .before .before .number .ensures) ∙ number-row _ (f .0) (f .1)) (c .before .before .read-field .ensures)
 
--- src/elements.rt:50:1
 same-length-2 : tie.Need-same-length-2
 same-length-2 c = search needs
 
--- src/elements.rt:50:1
 returns-2 : tie.Need-returns-2
 returns-2 c =
     let s = c .before .before .before .before .before .before .before .before .before .before in
     shape-choice (reading (whole (s .args .frame .now) (s .args .bits))) (s .args .shape) (s .args .at) (s .args .place) (s .args .values .now) _ _ _ _ _ _
     (c .before .before .before .before .before .before .shape2 .given .1) refl (ap (λ x. rowFor x []) (c .before .before .before .choice .ensures)) (c .before .before .read-field2 .ensures)
 
--- src/elements.rt:50:1
 same-length-3 : tie.Need-same-length-3
 same-length-3 c = search needs
 
--- src/elements.rt:50:1
 returns-3 : tie.Need-returns-3
 returns-3 c =
     let s = c .before .before .before .before .before .before .before .before in
     shape-identity (reading (whole (s .args .frame .now) (s .args .bits))) (s .args .shape) (s .args .at) (s .args .place) (s .args .values .now) _ _
     (c .before .before .before .before .enum-told .given .1) (c .before .before .read-identity .ensures)
 
--- src/elements.rt:50:1
 same-length-4 : tie.Need-same-length-4
 same-length-4 c = search needs
 
--- src/elements.rt:50:1
 returns-4 : tie.Need-returns-4
 returns-4 c =
     let s = c .before .before .before .before .before .before .before .before .before in
     shape-list (reading (whole (s .args .frame .now) (s .args .bits))) (s .args .shape) (s .args .at) (s .args .place) (s .args .values .now) _ _ _
     (c .before .before .before .before .before .shape3 .given .1) (c .before .before .read-list .ensures)
 
--- src/elements.rt:50:1
 same-length-5 : tie.Need-same-length-5
 same-length-5 c = search needs
 
--- src/elements.rt:50:1
 returns-5 : tie.Need-returns-5
 returns-5 c =
     let s = c .before .before .before .before .before .before .before .before in
     shape-ending (reading (whole (s .args .frame .now) (s .args .bits))) (s .args .shape) (s .args .at) (s .args .place) (s .args .values .now) _ _
     (c .before .before .before .before .enum-told2 .given .1) (c .before .before .read-field3 .ensures)
 
--- src/elements.rt:50:1
 same-length-6 : tie.Need-same-length-6
 same-length-6 c = search needs
 
--- src/elements.rt:50:1
 returns-6 : tie.Need-returns-6
 returns-6 c =
     let s = c .before .before .before .before .before .before .before .before in
     shape-missing (s .args .shape) _ (s .args .at) (s .args .place) (s .args .values .now) (s .pre .1) (s .pre .2) _ _ _ (c .before .before .before .before .shape4 .given .1)
     (sound-missing (s .args .shape) (s .args .place) _ (c .before .before .before .before .shape4 .given .1) (s .pre .3)) (c .before .holds .ensures) (c .barred .ensures)
 
--- src/elements.rt:50:1
 same-length-7 : tie.Need-same-length-7
 same-length-7 c = search needs
 
--- src/elements.rt:50:1
 returns-7 : tie.Need-returns-7
 returns-7 c =
     let s = c .before .before .before .before .before .before .before .before in
