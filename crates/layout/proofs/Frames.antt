@@ -27,7 +27,7 @@ use Rattle.layout.specs.Read.{Answer, frame, refused, readRows}
 use Rattle.layout.specs.Write.{held, lay, good, goodButGroup, vals, emit}
 use Rattle.layout.specs.Shape.{unrolled, rowsOf, repeated, span, spans}
 use Rattle.layout.specs.Table.{ssType, actionType, define, defineAck, cancel, cancelAck}
-use Rattle.layout.specs.Frame.{rows, head, places, read, readBytes, asReading, readingOf, laid, clean, valid, write, judgedOf, writtenIf, writtenOf, outputOf}
+use Rattle.layout.specs.Frame.{rows, head, places, filled, read, readBytes, asReading, readingOf, laid, clean, valid, write, judgedOf, writtenIf, writtenOf, outputOf}
 use Rattle.layout.proofs.RoundTrip.{read-emit, Sound, sound, lay-clean}
 
 -- ---- the tables: no row has more codes than its bits can hold
@@ -182,7 +182,7 @@ writes kind s size start = go (judgedOf kind s) refl
     go Writable e = roomy (leb start size) (leb (bytesFor n) (size - start)) refl (judged-valid kind s e)
 
 -- a record that has a frame of `count` bits is written where there is room for it
-write-fits : (kind : Kind) (s : List ℕ) (count : ℕ) → judgedOf kind s ≡ Writable → length (write kind s) ≡ count
+pub write-fits : (kind : Kind) (s : List ℕ) (count : ℕ) → judgedOf kind s ≡ Writable → length (write kind s) ≡ count
     → (size start : ℕ) → start + bytesFor count ≤ size → writtenOf kind s size start ≡ Bits count
 unfolding writtenOf
 write-fits kind s count fine long size start fit =
@@ -224,10 +224,6 @@ read-output kind s out start n e =
     let rest = drop (start + bytesFor n) out in
     let before = length-take-le start out (w .inside) in
     rw (e, drop-at (take start out) (bytesOf (write kind s) ++ rest) start before, w .reads rest)
-
--- a record as the reader hands it over, filled up with 0
-abbrev pub filled : List ℕ → List ℕ
-filled s = s ++ replicate (places - length s) 0
 
 abbrev pub accepted : List ℕ → Reading
 accepted s = record { verdict = Frame; values = record { place = filled s } }

@@ -1,3 +1,5 @@
 pub mod Tests
 pub mod RoundTrip
 pub mod Frames
+pub mod Says
+pub mod Chains

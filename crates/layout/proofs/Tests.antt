@@ -2,7 +2,7 @@
 -- Assumes nothing.
 use Prim.Native.Nat.{ℕ}
 use mathlib.Core.Path.{_≡_, refl}
-use mathlib.Core.Bool.{Bool, true, false, _&&_}
+use mathlib.Core.Bool.{Bool, true, false, _&&_, _||_}
 use mathlib.Core.List.{List, [], _∷_, _++_}
 use native.Mathlib.Omega.{arith}
 use lib.Dec.{T}
@@ -45,3 +45,11 @@ all-weaker p q w (x ∷ l) e = go (p x) (q x) (w x) e (all-weaker p q w l)
     go : (a b : Bool) → (a ≡ true → b ≡ true) → a && all p l ≡ true → (all p l ≡ true → all q l ≡ true) → b && all q l ≡ true
     go true b h e r = rw (h refl, r e)
     go false b h e r = let z : _≡_ {A = ℕ} 0 1 = cc in absurd (omega arith)
+
+pub told : (b : Bool) → T b → b ≡ true
+told true t = refl
+told false t = absurd t
+
+pub either : {A : Type 0} (a b : Bool) → T (a || b) → (T a → A) → (T b → A) → A
+either true b t f g = f tt
+either false b t f g = g t

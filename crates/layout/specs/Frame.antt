@@ -54,9 +54,13 @@ readBytes kind bytes count = cond (ltb (8 * length bytes) count) (refused EndsIn
 abbrev pub blankOf : Record
 blankOf = record { place = replicate places 0 }
 
--- the record, filled up with 0; on a refusal the number alone
+-- a record as the reader hands it over, filled up with 0
+abbrev pub filled : List ℕ → List ℕ
+filled s = s ++ replicate (places - length s) 0
+
+-- the record, filled up; on a refusal the number alone
 unfoldable pub asReading : Answer → Reading
-asReading (frame s) = record { verdict = verdict.Frame; values = record { place = s ++ replicate (places - length s) 0 } }
+asReading (frame s) = record { verdict = verdict.Frame; values = record { place = filled s } }
 asReading (refused n at) = record { verdict = verdict.Refused n; values = blankOf }
 
 unfoldable pub readingOf : Kind → List ℕ → ℕ → Reading

@@ -5,3 +5,5 @@ pub mod Table
 pub mod Read
 pub mod Write
 pub mod Frame
+pub mod Says
+pub mod Chain

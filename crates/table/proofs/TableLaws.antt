@@ -2,7 +2,7 @@
 -- Assumes nothing.
 use Prim.Native.Nat.{ℕ, zero, suc, _+_, _≤_, _<_}
 use mathlib.Core.Path.{_≡_, refl, ap, ap₂, sym, _∙_, subst}
-use mathlib.Core.Bool.{Bool, true, false, _&&_}
+use mathlib.Core.Bool.{Bool, _&&_}
 use mathlib.Core.List.{List, [], _∷_, _++_}
 use native.Mathlib.Numerals.{add-one}
 use native.Mathlib.Omega.{arith}
@@ -18,7 +18,7 @@ use Rattle.layout.specs.Table.{define, defineAck, cancel, cancelAck, tableOf}
 use Rattle.layout.specs.Frame.{places}
 use Rattle.table.specs.Lines.{lines, shortLines, past, linesOf}
 use Rattle.table.specs.Sound.{sound, able}
-use Rattle.layout.proofs.Tests.{left, right}
+use Rattle.layout.proofs.Tests.{left, right, told}
 
 -- n elements of a list from the k-th on
 entries : List Element → ℕ → ℕ → List Element
@@ -40,10 +40,6 @@ pub short-lines : (l more : List Element) → length l ≡ shortLines
     → getD l 0 past ∷ getD l 1 past ∷ getD l 2 past ∷ getD l 3 past ∷ getD l 4 past ∷ getD l 5 past ∷ getD l 6 past ∷ getD l 7 past ∷ more ≡ l ++ more
 unfolding entries
 short-lines l more h = ap (λ (m : List Element). m ++ more) (ap (entries l 0) (sym h) ∙ entries-all l)
-
-holds-so : (b : Bool) → T b → b ≡ true
-holds-so true t = refl
-holds-so false t = absurd t
 
 -- ---- the tests, computed once for each table
 tables-able : (kind : Kind) → T (able (tableOf kind) 0)
@@ -115,7 +111,7 @@ module _ (es : List Element) (p k : ℕ) (e : Element) (now : Placed es p k) (in
   sizes = sym (ap spans first)
 
   pub placed-span : e .2 ≡ span (e .1)
-  placed-span = eqb-true (e .2) (span (e .1)) (holds-so (eqb (e .2) (span (e .1))) (left (eqb (e .2) (span (e .1))) (sound (e .1) p) (left (eqb (e .2) (span (e .1)) && sound (e .1) p) later here)))
+  placed-span = eqb-true (e .2) (span (e .1)) (told (eqb (e .2) (span (e .1))) (left (eqb (e .2) (span (e .1))) (sound (e .1) p) (left (eqb (e .2) (span (e .1)) && sound (e .1) p) later here)))
 
   pub placed-sound : T (sound (e .1) p)
   placed-sound = right (eqb (e .2) (span (e .1))) (sound (e .1) p) (left (eqb (e .2) (span (e .1)) && sound (e .1) p) later here)
