@@ -35,6 +35,7 @@ use Rattle.table.proofs.TableLaws.{Held, Placed, placed-none, placed-sound, pla
 pub good-coded : (l : List Laid) → all good l ≡ true → all goodButGroup l ≡ true
 good-coded l e = all-weaker good goodButGroup (λ x t. rw t) l e
 
+-- k of the elements es are passed, up to the place p: what is laid of them, and what is left
 pub record Wrote (es : List Element) (s out₀ vs out : List ℕ) (grouped : Bool) (at p k : ℕ) : Type 0 where
   pub done : List Laid
   pub whole : lay (unrolled es 0) [] s ≡ done ++ lay (unrolled (drop k es) p) (take p vs) (drop p s)
@@ -46,9 +47,8 @@ pub record Wrote (es : List Element) (s out₀ vs out : List ℕ) (grouped : Boo
   pub passed : k ≤ length es
 
 -- the same under other names
-pub wrote-as : {es : List Element} {s out₀ vs vs′ out out′ : List ℕ} {grouped grouped′ : Bool} {at at′ p k : ℕ} → vs′ ≡ vs → out′ ≡ out → grouped′ ≡ grouped
-    → at′ ≡ at
-    → Wrote es s out₀ vs out grouped at p k → Wrote es s out₀ vs′ out′ grouped′ at′ p k
+pub wrote-as : {es : List Element} {s out₀ vs vs′ out out′ : List ℕ} {grouped grouped′ : Bool} {at at′ p k : ℕ}
+    → vs′ ≡ vs → out′ ≡ out → grouped′ ≡ grouped → at′ ≡ at → Wrote es s out₀ vs out grouped at p k → Wrote es s out₀ vs′ out′ grouped′ at′ p k
 wrote-as a b c d now = rw (a, b, c, d) now
 
 -- ---- before the first element

@@ -74,7 +74,7 @@ fn lay_shape(
     }
 }
 
-// The elements of a kind's table, after the head.
+// The elements of a kind's table, after the head. A shape is copied out where it is used: before the test it would be copied in vain.
 pub fn lay_elements(kind: Kind, values: &[u32], out: &mut [u8]) -> Walked
     requires { ⌜ length (now values) ≡ places ⌝ }
     ensures { λ r. ⌜ Walks (laid kind (now (values .entry))) (now (out .entry)) (now (out .exit)) r ⌝ }
