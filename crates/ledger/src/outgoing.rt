@@ -1,6 +1,7 @@
 // The orders that go out, in lent room.
 use crate::gathering::copy_firsts;
 use crate::gathering::list_members;
+use frame::PLACES;
 use order::Gtsi;
 use order::Itsi;
 use order::Listed;
@@ -162,7 +163,7 @@ fn assign_orders(named: &[u64], radios: &[u64], out: &mut [[u64; 3]])
 }
 
 // The orders of a define, in the lent room; their number is returned.
-pub fn define_orders(place: [u32; 166], out: &mut [[u64; 3]]) -> usize
+pub fn define_orders(place: [u32; PLACES], out: &mut [[u64; 3]]) -> usize
     requires { ⌜ length (ordersSent place) ≤ length (now out) ⌝ }
     ensures { λ r. ⌜ (r ≡ length (ordersSent place)) × (now (out .exit) ≡ onto (map orderRow (ordersSent place)) (now (out .entry))) ⌝ }
 {

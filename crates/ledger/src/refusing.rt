@@ -7,6 +7,7 @@ use crate::gathering::find;
 use crate::outgoing::count_orders;
 use frame::Judged;
 use frame::Kind;
+use frame::PLACES;
 use frame::Record;
 use order::Gtsi;
 use order::Itsi;
@@ -325,7 +326,7 @@ fn refuses(judged: Judged) -> bool
 // What a define is refused with for its form.
 fn define_form_fault(
     asker: Itsi,
-    place: [u32; 166],
+    place: [u32; PLACES],
     named: Listed,
     owners: Listed,
     radios: Listed,
@@ -378,7 +379,7 @@ pub fn define_fault(
     groups: &[[u64; 36]],
     pairs: &[[u64; 4]],
     asker: Itsi,
-    place: [u32; 166],
+    place: [u32; PLACES],
     room: usize,
 ) -> Reply
     ensures { λ r. ⌜ (r ≡ replyOf (verdict (contents (now (head .entry)) (now (groups .entry)) (now (pairs .entry))) (defineStep asker place room))) × (r ≡ Done → Sound (contents (now (head .entry)) (now (groups .entry)) (now (pairs .entry)))) ⌝ }

@@ -1,4 +1,5 @@
 // Groups and pairs made, changed and taken out.
+use frame::PLACES;
 use order::Gtsi;
 use order::Itsi;
 use order::Listed;
@@ -193,7 +194,7 @@ pub fn define_groups(
     groups: &mut [[u64; 36]],
     count: usize,
     asker: Itsi,
-    place: [u32; 166],
+    place: [u32; PLACES],
 ) -> usize
     requires { ⌜ (count ≤ length (now groups)) × (length (groupsMade (asker .0) place (groupsOf count (now groups))) ≤ length (now groups)) × Plain groupOf groupRow count (now groups) × FineGroups (groupsOf count (now groups)) × (badName (optionalName place) ≡ false) ⌝ }
     ensures { λ r. ⌜ (r ≡ length (groupsMade (asker .0) place (groupsOf count (now (groups .entry))))) × (now (groups .exit) ≡ onto (map groupRow (groupsMade (asker .0) place (groupsOf count (now (groups .entry))))) (now (groups .entry))) ⌝ }
@@ -216,7 +217,7 @@ pub fn define_groups(
 }
 
 // The pairs that a define sets; their count is returned.
-pub fn define_pairs(pairs: &mut [[u64; 4]], count: usize, place: [u32; 166]) -> usize
+pub fn define_pairs(pairs: &mut [[u64; 4]], count: usize, place: [u32; PLACES]) -> usize
     requires { ⌜ (count ≤ length (now pairs)) × (length (pairsSet place (pairsOf count (now pairs))) ≤ length (now pairs)) × Plain pairOf pairRow count (now pairs) ⌝ }
     ensures { λ r. ⌜ (r ≡ length (pairsSet place (pairsOf count (now (pairs .entry))))) × (now (pairs .exit) ≡ onto (map pairRow (pairsSet place (pairsOf count (now (pairs .entry))))) (now (pairs .entry))) ⌝ }
 {

@@ -1,6 +1,9 @@
 // The lists and parameters of an order, as they are lent or as a DEFINE record holds them.
 
-ghost use Prim.Native.Nat.{_-_, _≤_, _<_, min};
+use layout::PLACES;
+use table::place::*;
+ghost use Rattle.layout.specs.Frame.{places};
+ghost use Prim.Native.Nat.{_+_, _-_, _≤_, _<_, min};
 ghost use lib.Dec.{eqb};
 ghost use lib.ListN.{length, getD, take, drop, replicate};
 ghost use mathlib.Core.Bool.{not};
@@ -190,16 +193,16 @@ fn one_down(value: u32) -> u64
 }
 
 // Whether an optional element of a DEFINE record is there; its P-bit is at `k`.
-fn optional(place: [u32; 166], k: usize) -> bool
-    requires { ⌜ k < 166 ⌝ }
+fn optional(place: [u32; PLACES], k: usize) -> bool
+    requires { ⌜ k < places ⌝ }
     ensures { λ r. ⌜ r ≡ optional place k ⌝ }
 {
-    (place[45] == 1) & (place[k] == 1)
+    (place[O_BIT] == 1) & (place[k] == 1)
 }
 
 // An optional number of a DEFINE record, one up, 0 where absent; its P-bit is at `k`.
-fn word_at(place: [u32; 166], k: usize) -> u64
-    requires { ⌜ k < 165 ⌝ }
+fn word_at(place: [u32; PLACES], k: usize) -> u64
+    requires { ⌜ k + 1 < places ⌝ }
     ensures { λ r. ⌜ r ≡ heldOf (optionalNumber place k) ⌝ }
 {
     if optional(place, k) {
@@ -209,8 +212,8 @@ fn word_at(place: [u32; 166], k: usize) -> u64
 }
 
 // An optional choice, likewise.
-fn choice_at(place: [u32; 166], k: usize) -> u64
-    requires { ⌜ k < 165 ⌝ }
+fn choice_at(place: [u32; PLACES], k: usize) -> u64
+    requires { ⌜ k + 1 < places ⌝ }
     ensures { λ r. ⌜ r ≡ heldOf (optionalChoice place k) ⌝ }
 {
     if optional(place, k) {
@@ -220,49 +223,49 @@ fn choice_at(place: [u32; 166], k: usize) -> u64
 }
 
 // How many letters the name has, 0 where it is absent.
-fn name_count(place: [u32; 166]) -> u64
+fn name_count(place: [u32; PLACES]) -> u64
     ensures { λ r. ⌜ r ≡ length (lettersOf (optionalName place)) ⌝ }
 {
-    if !optional(place, 95) {
+    if !optional(place, NAME_GIVEN) {
         return 0;
     }
-    if 16 < place[96] {
+    if 16 < place[NAME] {
         return 16;
     }
-    widened(place[96])
+    widened(place[NAME])
 }
 
 // A letter of the name, 0 past its end.
-fn letter_at(place: [u32; 166], k: usize) -> u64
+fn letter_at(place: [u32; PLACES], k: usize) -> u64
     requires { ⌜ k < 16 ⌝ }
     ensures { λ r. ⌜ r ≡ getD (lettersOf (optionalName place)) k 0 ⌝ }
 {
     if k < name_count(place) as usize {
-        return widened(place[97 + k]);
+        return widened(place[LETTERS + k]);
     }
     0
 }
 
 // A parameter's word of the order's row.
-fn value_word(place: [u32; 166], j: usize) -> u64
+fn value_word(place: [u32; PLACES], j: usize) -> u64
     ensures { λ r. ⌜ r ≡ valueWord place j ⌝ }
 {
     if j == 1 {
-        return word_at(place, 46);
+        return word_at(place, SET_REFERENCE_GIVEN);
     }
     if j == 2 {
-        return choice_at(place, 91);
+        return choice_at(place, ACKNOWLEDGED_CALL_GIVEN);
     }
     if j == 3 {
-        return choice_at(place, 93);
+        return choice_at(place, BROADCAST_GIVEN);
     }
     if j == 4 {
-        return word_at(place, 158);
+        return word_at(place, CLASS_GIVEN);
     }
     if j == 5 {
-        return word_at(place, 160);
+        return word_at(place, LIFETIME_GIVEN);
     }
-    word_at(place, 162)
+    word_at(place, TEMPORARY_GIVEN)
 }
 
 // An owner, 0 past the last.
@@ -276,7 +279,7 @@ fn owner_at(owners: &[u64], k: usize) -> u64
 }
 
 // A word of the order's row.
-fn order_word(place: [u32; 166], owners: &[u64], j: usize) -> u64
+fn order_word(place: [u32; PLACES], owners: &[u64], j: usize) -> u64
     requires { ⌜ j < 36 ⌝ }
     ensures { λ r. ⌜ r ≡ orderWord place (now (owners .entry)) j ⌝ }
 {
@@ -299,7 +302,7 @@ fn order_word(place: [u32; 166], owners: &[u64], j: usize) -> u64
 }
 
 // The order's row: the parameters of a DEFINE record, and the owners that it gives.
-pub fn order_row(place: [u32; 166], owners: &[u64]) -> [u64; 36]
+pub fn order_row(place: [u32; PLACES], owners: &[u64]) -> [u64; 36]
     ensures { λ r. ⌜ r ≡ orderRowOf place (now (owners .entry)) ⌝ }
 {
     let mut row = [0u64; 36];
@@ -312,16 +315,16 @@ pub fn order_row(place: [u32; 166], owners: &[u64]) -> [u64; 36]
 }
 
 // Whether an optional element is there and says "yes".
-fn optional_yes(place: [u32; 166], k: usize) -> bool
-    requires { ⌜ k < 165 ⌝ }
+fn optional_yes(place: [u32; PLACES], k: usize) -> bool
+    requires { ⌜ k + 1 < places ⌝ }
     ensures { λ r. ⌜ r ≡ optionalYes place k ⌝ }
 {
-    optional(place, k) & (place[k + 1] == 1)
+    optional(place, k) & (place[k + 1] == YES)
 }
 
 // The identity whose four places begin at `k`.
-fn identity_at(place: [u32; 166], k: usize) -> Identity
-    requires { ⌜ k < 163 ⌝ }
+fn identity_at(place: [u32; PLACES], k: usize) -> Identity
+    requires { ⌜ k + 3 < places ⌝ }
     ensures { λ r. ⌜ identityOf r ≡ identityAt place k ⌝ }
 {
     Identity {
@@ -333,8 +336,8 @@ fn identity_at(place: [u32; 166], k: usize) -> Identity
 }
 
 // The list whose number type is at `k`, its ten identities behind it.
-fn numbers_at(place: [u32; 166], k: usize, given: bool) -> Listed
-    requires { ⌜ k < 126 ⌝ }
+fn numbers_at(place: [u32; PLACES], k: usize, given: bool) -> Listed
+    requires { ⌜ k + 40 < places ⌝ }
     ensures { λ r. ⌜ (listOf r ≡ listed place given k) × (r .given ≡ given) ⌝ }
 {
     Listed {
@@ -358,31 +361,31 @@ fn numbers_at(place: [u32; 166], k: usize, given: bool) -> Listed
 }
 
 // The groups that a DEFINE record names.
-pub fn group_list(place: [u32; 166]) -> Listed
+pub fn group_list(place: [u32; PLACES]) -> Listed
     ensures { λ r. ⌜ listOf r ≡ groupsListed place ⌝ }
 {
-    numbers_at(place, 4, place[2] == 1)
+    numbers_at(place, GROUPS, place[GIVEN] == YES)
 }
 
 // The owners that it gives.
-pub fn owner_list(place: [u32; 166]) -> Listed
+pub fn owner_list(place: [u32; PLACES]) -> Listed
     ensures { λ r. ⌜ (listOf r ≡ ownersListed place) × (r .given ≡ optionalYes place ownersIncluded) ⌝ }
 {
-    numbers_at(place, 50, optional_yes(place, 48))
+    numbers_at(place, OWNERS, optional_yes(place, OWNERS_INCLUDED_GIVEN))
 }
 
 // The radios that it assigns.
-pub fn radio_list(place: [u32; 166]) -> Listed
+pub fn radio_list(place: [u32; PLACES]) -> Listed
     ensures { λ r. ⌜ listOf r ≡ radiosListed place ⌝ }
 {
-    numbers_at(place, 115, optional_yes(place, 113))
+    numbers_at(place, RADIOS, optional_yes(place, ASSIGNMENT_GIVEN))
 }
 
 // The state that its pairs begin with: waiting where it asks for an acknowledgement.
-pub fn first_state(place: [u32; 166]) -> u64
+pub fn first_state(place: [u32; PLACES]) -> u64
     ensures { λ r. ⌜ r ≡ begun (optional place acknowledgementRequested) .state ⌝ }
 {
-    if optional(place, 156) {
+    if optional(place, ACKNOWLEDGEMENT_GIVEN) {
         return 1;
     }
     0

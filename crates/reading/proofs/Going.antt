@@ -85,7 +85,7 @@ module _ (es : List Element) (bits : List Bool) (from : ℕ) (vs : List ℕ) (at
   going-over h = last ∙ rw (drop-cons bits at false h)
 
   -- the values are the record so far and 0s
-  whole-record : take p vs ++ replicate (166 - length (take p vs)) 0 ≡ vs
+  whole-record : take p vs ++ replicate (places - length (take p vs)) 0 ≡ vs
   whole-record =
       let low : p ≤ places = omega (arith, now .placed .room) in
       let n : length (take p vs) ≡ p = length-take-le p vs (omega (arith, now .size)) in

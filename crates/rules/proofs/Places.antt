@@ -3,17 +3,31 @@ use Prim.Native.Nat.{ℕ, zero, suc, _+_, _*_, _<_}
 use mathlib.Core.Path.{_≡_, refl, sym, _∙_, ap}
 use mathlib.Core.Bool.{false}
 use mathlib.Core.List.{List, [], _∷_, _++_}
-use lib.Dec.{leb}
+use lib.Dec.{T, eqb}
 use lib.ListN.{length, getD, drop}
 use lib.Seq.{getD-drop}
 use native.Mathlib.Omega.{arith}
 use Rattle.layout.specs.declared.Kind.the-variants as kind
 use Rattle.layout.specs.declared.Items.the-variants.{Numbers, Letters}
-use Rattle.layout.specs.Row.{Condition, is, atLeast, Row, nothing}
+use Rattle.layout.specs.Row.{Condition, is, atLeast, Row, all, nothing}
 use Rattle.layout.specs.Shape.{number, choice, least, rowsOf, repeated, span, spans, unrolled}
 use Rattle.layout.specs.Table.{define}
-use Rattle.layout.specs.Frame.{rows}
-use Rattle.rules.specs.Recorded.{groupGiven, groupNumbers, optionsFollow, setReference, ownersIncluded, ownerNumbers, acknowledgedCall, broadcast, letterCount, letters, assignment, radioNumbers, classOfUsage, attachmentLifetime, temporaryAssignment}
+use Rattle.layout.specs.Write.{idle}
+use Rattle.layout.specs.Frame.{rows, places}
+use Rattle.rules.specs.Recorded.{callRelated, acknowledgementRequested, groupGiven, groupNumbers, optionsFollow, setReference, ownersIncluded, ownerNumbers, acknowledgedCall, broadcast, letterCount, letters, assignment, radioNumbers, classOfUsage, attachmentLifetime, temporaryAssignment}
+
+-- the places that an order is read from are those that the table itself names
+pub places-held : T (all (λ (p : ℕ × ℕ). eqb (p .0) (p .1)) (
+    (callRelated, define .known .«call_related») ∷ (groupGiven, define .known .given) ∷ (groupNumbers, define .known .groups)
+    ∷ (optionsFollow, define .known .«o_bit») ∷ (setReference, define .known .«set_reference_given»)
+    ∷ (ownersIncluded, define .known .«owners_included_given») ∷ (ownerNumbers, define .known .owners)
+    ∷ (acknowledgedCall, define .known .«acknowledged_call_given») ∷ (broadcast, define .known .«broadcast_given»)
+    ∷ (letterCount, define .known .«name_given») ∷ (letters, define .known .name + 1)
+    ∷ (assignment, define .known .«assignment_given») ∷ (radioNumbers, define .known .radios)
+    ∷ (acknowledgementRequested, define .known .«acknowledgement_given») ∷ (classOfUsage, define .known .«class_given»)
+    ∷ (attachmentLifetime, define .known .«lifetime_given») ∷ (temporaryAssignment, define .known .«temporary_given») ∷ []))
+unfolding define span spans
+places-held = tt
 
 abbrev pub table : List Row
 table = rows kind.Define
@@ -21,59 +35,66 @@ table = rows kind.Define
 abbrev pub rowAt : ℕ → Row
 rowAt k = getD table k nothing
 
-pub all-rows : length table ≡ 166
+pub all-rows : length table ≡ places
 unfolding rows define unrolled rowsOf repeated span spans
 all-rows = refl
 
 -- ---- an optional element: its P-bit at k, which hangs on the O-bit at 45, and its value behind it ----
 
+-- a value behind its P-bit at k, and a list behind a value that says "yes"
+abbrev pub given : ℕ → List Condition
+given k = is optionsFollow 1 ∷ is optionsFollow 1 ∷ is k 1 ∷ []
+
+abbrev pub said : ℕ → List Condition
+said k = is optionsFollow 1 ∷ is k 1 ∷ is (k + 1) 1 ∷ []
+
 pub record Optional (k : ℕ) (r : Row) : Type 0 where
   pub after : optionsFollow < k
-  pub within : k + 1 < 166
+  pub within : k + 1 < places
   pub flag : rowAt k ≡ number 1 (is optionsFollow 1 ∷ [])
   pub value : rowAt (k + 1) ≡ r
-  pub codes : leb (r .codes) 1 ≡ false
-  pub hangs : r .hang ≡ is k 1 ∷ []
+  pub carries : idle r ≡ false
+  pub hangs : r .hang ≡ given k
 
 pub o-bit-at : rowAt optionsFollow ≡ number 1 []
 unfolding rows define unrolled rowsOf repeated span spans
 o-bit-at = refl
 
-pub set-reference-at : Optional setReference (number 3 (is setReference 1 ∷ []))
+pub set-reference-at : Optional setReference (number 3 (given setReference))
 unfolding rows define unrolled rowsOf repeated span spans
-set-reference-at = record { after = omega arith; within = omega arith; flag = refl; value = refl; codes = refl; hangs = refl }
+set-reference-at = record { after = omega arith; within = omega arith; flag = refl; value = refl; carries = refl; hangs = refl }
 
-pub owners-included-at : Optional ownersIncluded (choice 1 2 (is ownersIncluded 1 ∷ []))
+pub owners-included-at : Optional ownersIncluded (choice 1 2 (given ownersIncluded))
 unfolding rows define unrolled rowsOf repeated span spans
-owners-included-at = record { after = omega arith; within = omega arith; flag = refl; value = refl; codes = refl; hangs = refl }
+owners-included-at = record { after = omega arith; within = omega arith; flag = refl; value = refl; carries = refl; hangs = refl }
 
-pub acknowledged-call-at : Optional acknowledgedCall (choice 1 2 (is acknowledgedCall 1 ∷ []))
+pub acknowledged-call-at : Optional acknowledgedCall (choice 1 2 (given acknowledgedCall))
 unfolding rows define unrolled rowsOf repeated span spans
-acknowledged-call-at = record { after = omega arith; within = omega arith; flag = refl; value = refl; codes = refl; hangs = refl }
+acknowledged-call-at = record { after = omega arith; within = omega arith; flag = refl; value = refl; carries = refl; hangs = refl }
 
-pub broadcast-at : Optional broadcast (choice 1 2 (is broadcast 1 ∷ []))
+pub broadcast-at : Optional broadcast (choice 1 2 (given broadcast))
 unfolding rows define unrolled rowsOf repeated span spans
-broadcast-at = record { after = omega arith; within = omega arith; flag = refl; value = refl; codes = refl; hangs = refl }
+broadcast-at = record { after = omega arith; within = omega arith; flag = refl; value = refl; carries = refl; hangs = refl }
 
-pub letter-count-at : Optional letterCount (choice 4 16 (is letterCount 1 ∷ []))
+pub letter-count-at : Optional letterCount (choice 4 16 (given letterCount))
 unfolding rows define unrolled rowsOf repeated span spans
-letter-count-at = record { after = omega arith; within = omega arith; flag = refl; value = refl; codes = refl; hangs = refl }
+letter-count-at = record { after = omega arith; within = omega arith; flag = refl; value = refl; carries = refl; hangs = refl }
 
-pub assignment-at : Optional assignment (choice 1 2 (is assignment 1 ∷ []))
+pub assignment-at : Optional assignment (choice 1 2 (given assignment))
 unfolding rows define unrolled rowsOf repeated span spans
-assignment-at = record { after = omega arith; within = omega arith; flag = refl; value = refl; codes = refl; hangs = refl }
+assignment-at = record { after = omega arith; within = omega arith; flag = refl; value = refl; carries = refl; hangs = refl }
 
-pub class-of-usage-at : Optional classOfUsage (number 3 (is classOfUsage 1 ∷ []))
+pub class-of-usage-at : Optional classOfUsage (number 3 (given classOfUsage))
 unfolding rows define unrolled rowsOf repeated span spans
-class-of-usage-at = record { after = omega arith; within = omega arith; flag = refl; value = refl; codes = refl; hangs = refl }
+class-of-usage-at = record { after = omega arith; within = omega arith; flag = refl; value = refl; carries = refl; hangs = refl }
 
-pub attachment-lifetime-at : Optional attachmentLifetime (number 2 (is attachmentLifetime 1 ∷ []))
+pub attachment-lifetime-at : Optional attachmentLifetime (number 2 (given attachmentLifetime))
 unfolding rows define unrolled rowsOf repeated span spans
-attachment-lifetime-at = record { after = omega arith; within = omega arith; flag = refl; value = refl; codes = refl; hangs = refl }
+attachment-lifetime-at = record { after = omega arith; within = omega arith; flag = refl; value = refl; carries = refl; hangs = refl }
 
-pub temporary-assignment-at : Optional temporaryAssignment (number 3 (is temporaryAssignment 1 ∷ []))
+pub temporary-assignment-at : Optional temporaryAssignment (number 3 (given temporaryAssignment))
 unfolding rows define unrolled rowsOf repeated span spans
-temporary-assignment-at = record { after = omega arith; within = omega arith; flag = refl; value = refl; codes = refl; hangs = refl }
+temporary-assignment-at = record { after = omega arith; within = omega arith; flag = refl; value = refl; carries = refl; hangs = refl }
 
 -- ---- a list of items: its count at t, its items behind it ----
 
@@ -132,13 +153,13 @@ pub groups-at : ListAt groupNumbers (is groupGiven 1 ∷ [])
 unfolding rows define unrolled rowsOf repeated span spans
 groups-at = list-at groupNumbers (is groupGiven 1 ∷ []) refl refl
 
-pub owners-at : ListAt ownerNumbers (is (ownersIncluded + 1) 1 ∷ [])
+pub owners-at : ListAt ownerNumbers (said ownersIncluded)
 unfolding rows define unrolled rowsOf repeated span spans
-owners-at = list-at ownerNumbers (is (ownersIncluded + 1) 1 ∷ []) refl refl
+owners-at = list-at ownerNumbers (said ownersIncluded) refl refl
 
-pub radios-at : ListAt radioNumbers (is (assignment + 1) 1 ∷ [])
+pub radios-at : ListAt radioNumbers (said assignment)
 unfolding rows define unrolled rowsOf repeated span spans
-radios-at = list-at radioNumbers (is (assignment + 1) 1 ∷ []) refl refl
+radios-at = list-at radioNumbers (said assignment) refl refl
 
 pub letter-at : (j : ℕ) → j < 16 → rowAt (letters + j) ≡ number 8 (atLeast (letterCount + 1) (j + 1) ∷ [])
 unfolding rows define unrolled rowsOf repeated span spans

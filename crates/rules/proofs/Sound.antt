@@ -12,9 +12,9 @@ use borrow.Author.Tests.{eqb-true, eqb-false, ltb-true, eq-eqb, ne-eqb, lt-leb, 
 use Rattle.layout.specs.declared.Kind.the-variants as kind
 use Rattle.layout.specs.declared.Items.the-variants.{Numbers}
 use Rattle.layout.specs.Row.{Condition, is, atLeast, Row, all, present}
-use Rattle.layout.specs.Write.{lay, good, goodButGroup, vals}
+use Rattle.layout.specs.Write.{idle, lay, good, goodButGroup, vals}
 use Rattle.layout.specs.Shape.{number, choice, least}
-use Rattle.layout.specs.Frame.{judgedOf}
+use Rattle.layout.specs.Frame.{places, judgedOf}
 use Rattle.rules.specs.Lists.{any}
 use Rattle.rules.specs.Number.{count, used, wide, badIdentity, badList}
 use Rattle.rules.specs.Parameters.{tooLarge, badName, badParameters}
@@ -23,7 +23,7 @@ use Rattle.rules.specs.Refusals.{refuses, badValues}
 use Rattle.rules.proofs.Tests.{split, clash, and-in, and-l, and-r, or-in}
 use Rattle.rules.proofs.Recorded.{length-identities, identities-at}
 use Rattle.rules.proofs.Laid.{Coded, coded}
-use Rattle.rules.proofs.Places.{table, rowAt, all-rows, Optional, o-bit-at, set-reference-at, owners-included-at, acknowledged-call-at, broadcast-at, letter-count-at, assignment-at, class-of-usage-at, attachment-lifetime-at, temporary-assignment-at, ListAt, given-at, groups-at, owners-at, radios-at, letter-at}
+use Rattle.rules.proofs.Places.{table, rowAt, all-rows, given, said, Optional, o-bit-at, set-reference-at, owners-included-at, acknowledged-call-at, broadcast-at, letter-count-at, assignment-at, class-of-usage-at, attachment-lifetime-at, temporary-assignment-at, ListAt, given-at, groups-at, owners-at, radios-at, letter-at}
 
 -- a test of the first n, place by place
 any-take : {A : Type 0} (p : A → Bool) (d : A) (n : ℕ) (l : List A) → ((j : ℕ) → j < n → j < length l → p (getD l j d) ≡ false) → any p (take n l) ≡ false
@@ -59,14 +59,14 @@ record Valued (r : Row) (value laid : ℕ) : Type 0 where
   low : r .first ≤ value
   high : value < r .first + r .codes
 
-module _ (s : List ℕ) (whole : length s ≡ 166) (g : all good (lay table [] s) ≡ true) where
+module _ (s : List ℕ) (whole : length s ≡ places) (g : all good (lay table [] s) ≡ true) where
   abbrev laid : List ℕ
   laid = vals (lay table [] s)
 
-  valued : (k : ℕ) (r : Row) → k < 166 → rowAt k ≡ r → leb (r .codes) 1 ≡ false → present (take k laid) (r .hang) ≡ true → Valued r (getD s k 0) (getD laid k 0)
+  valued : (k : ℕ) (r : Row) → k < places → rowAt k ≡ r → idle r ≡ false → present (take k laid) (r .hang) ≡ true → Valued r (getD s k 0) (getD laid k 0)
   valued k r h e c p =
       let f = subst (λ (x : Row). present (take k laid) (x .hang) ≡ true → Coded x (getD s k 0) (getD laid k 0)) e (coded table [] s g k (rw all-rows h)) p in
-      let q : getD laid k 0 ≡ getD s k 0 = f .same ∙ ap (λ (b : Bool). cond b (r .first) (getD s k 0)) c in
+      let q : getD laid k 0 ≡ getD s k 0 = f .same ∙ ap (λ (b : Bool). cond b 0 (getD s k 0)) c in
       record { same = q; low = subst (λ (v : ℕ). r .first ≤ v) q (f .least); high = subst (λ (v : ℕ). v < r .first + r .codes) q (f .most) }
 
   -- conditions on a place before
@@ -82,24 +82,40 @@ module _ (s : List ℕ) (whole : length s ≡ 166) (g : all good (lay table [] s
   unfolding present
   holds-least k j v h e = and-in (le-leb v (getD (take k laid) j 0) (rw (getD-take k laid j 0 h) e)) refl
 
+  holds-chain : (k a b j v : ℕ) → a < k → b < k → j < k → getD laid a 0 ≡ 1 → getD laid b 0 ≡ 1 → getD laid j 0 ≡ v
+      → present (take k laid) (is a 1 ∷ is b 1 ∷ is j v ∷ []) ≡ true
+  unfolding present
+  holds-chain k a b j v f g h c d e =
+      let at : (x w : ℕ) → x < k → getD laid x 0 ≡ w → eqb (getD (take k laid) x 0) w ≡ true = λ x w l q. eq-eqb (getD (take k laid) x 0) w (getD-take k laid x 0 l ∙ q) in
+      and-in (at a 1 f c) (and-in (at b 1 g d) (and-in (at j v h e) refl))
+
   -- ---- optional elements ----
+
+  options : (k : ℕ) → optional s k ≡ true → getD laid optionsFollow 0 ≡ 1
+  options k y =
+      valued optionsFollow (number 1 []) (omega arith) o-bit-at refl (always optionsFollow) .same
+      ∙ eqb-true (getD s optionsFollow 0) 1 (and-l (saysYes s optionsFollow) (saysYes s k) y)
+
+  flag : (k : ℕ) (r : Row) → Optional k r → optional s k ≡ true → getD laid k 0 ≡ 1
+  flag k r o y =
+      valued k (number 1 (is optionsFollow 1 ∷ [])) (let w = o .within in omega arith) (o .flag) refl (holds-is k optionsFollow 1 (o .after) (options k y)) .same
+      ∙ eqb-true (getD s k 0) 1 (and-r (saysYes s optionsFollow) (saysYes s k) y)
 
   optional-valued : (k : ℕ) (r : Row) → Optional k r → optional s k ≡ true → Valued r (getD s (k + 1) 0) (getD laid (k + 1) 0)
   optional-valued k r o y =
-      let options = valued optionsFollow (number 1 []) (omega arith) o-bit-at refl (always optionsFollow) .same ∙ eqb-true (getD s optionsFollow 0) 1 (and-l (saysYes s optionsFollow) (saysYes s k) y) in
-      let flag = valued k (number 1 (is optionsFollow 1 ∷ [])) (let w = o .within in omega arith) (o .flag) refl (holds-is k optionsFollow 1 (o .after) options) .same
-      ∙ eqb-true (getD s k 0) 1 (and-r (saysYes s optionsFollow) (saysYes s k) y) in
-      valued (k + 1) r (o .within) (o .value) (o .codes)
-      (subst (λ (c : List Condition). present (take (k + 1) laid) c ≡ true) (sym (o .hangs)) (holds-is (k + 1) k 1 (omega arith) flag))
+      let a = o .after in
+      valued (k + 1) r (o .within) (o .value) (o .carries)
+      (subst (λ (c : List Condition). present (take (k + 1) laid) c ≡ true) (sym (o .hangs))
+      (holds-chain (k + 1) optionsFollow optionsFollow k 1 (omega arith) (omega arith) (omega arith) (options k y) (options k y) (flag k r o y)))
 
-  number-small : (k w : ℕ) → Optional k (number w (is k 1 ∷ [])) → tooLarge (2 ^ w) (optionalNumber s k) ≡ false
+  number-small : (k w : ℕ) → Optional k (number w (given k)) → tooLarge (2 ^ w) (optionalNumber s k) ≡ false
   number-small k w o = split (optional s k)
-      (λ y. let v = optional-valued k (number w (is k 1 ∷ [])) o y .high in rw y (lt-leb (2 ^ w) (getD s (k + 1) 0) (omega arith)))
+      (λ y. let v = optional-valued k (number w (given k)) o y .high in rw y (lt-leb (2 ^ w) (getD s (k + 1) 0) (omega arith)))
       (λ n. rw n refl)
 
-  choice-small : (k : ℕ) → Optional k (choice 1 2 (is k 1 ∷ [])) → tooLarge 2 (optionalChoice s k) ≡ false
+  choice-small : (k : ℕ) → Optional k (choice 1 2 (given k)) → tooLarge 2 (optionalChoice s k) ≡ false
   choice-small k o = split (optional s k)
-      (λ y. let v = optional-valued k (choice 1 2 (is k 1 ∷ [])) o y .high in rw y (lt-leb 2 (getD s (k + 1) 0 - 1) (omega arith)))
+      (λ y. let v = optional-valued k (choice 1 2 (given k)) o y .high in rw y (lt-leb 2 (getD s (k + 1) 0 - 1) (omega arith)))
       (λ n. rw n refl)
 
   -- ---- lists ----
@@ -111,7 +127,7 @@ module _ (s : List ℕ) (whole : length s ≡ 166) (g : all good (lay table [] s
       (λ e. let l = ltb-true 0 (getD s p 0 - 1) e in rw e (lt-leb (2 ^ 24) (getD s (p + 2) 0) (n (omega arith))))
       (λ e. rw e refl))
 
-  list-good : (t : ℕ) (hang : List Condition) → t + 41 < 166 → ListAt t hang → present (take t laid) hang ≡ true → badList (some (numbersAt s t)) ≡ false
+  list-good : (t : ℕ) (hang : List Condition) → t + 41 < places → ListAt t hang → present (take t laid) hang ≡ true → badList (some (numbersAt s t)) ≡ false
   unfolding numbersAt
   list-good t hang w a p =
       let c = valued t (choice 4 11 hang) (omega arith) (a .count) refl p in
@@ -141,24 +157,24 @@ module _ (s : List ℕ) (whole : length s ≡ 166) (g : all good (lay table [] s
       (λ y. rw y (named y))
       (λ n. rw n refl)
     where
-      places : List ℕ
-      places = take 16 (drop letters s)
+      letterPlaces : List ℕ
+      letterPlaces = take 16 (drop letters s)
 
-      sixteen : length places ≡ 16
+      sixteen : length letterPlaces ≡ 16
       sixteen = length-take-le 16 (drop letters s) (rw (length-drop letters s, whole) (omega arith))
 
-      named : optional s letterCount ≡ true → badName (some (take (getD s (letterCount + 1) 0) places)) ≡ false
+      named : optional s letterCount ≡ true → badName (some (take (getD s (letterCount + 1) 0) letterPlaces)) ≡ false
       named y =
-          let c = optional-valued letterCount (choice 4 16 (is letterCount 1 ∷ [])) letter-count-at y in
+          let c = optional-valued letterCount (choice 4 16 (given letterCount)) letter-count-at y in
           let n = getD s (letterCount + 1) 0 in
           let low = c .low in
           let high = c .high in
-          let size : length (take n places) ≡ n = length-take-le n places (rw sixteen (omega arith)) in
-          or-in (eqb (length (take n places)) 0) (ltb 16 (length (take n places)) || any (λ x. leb 256 x) (take n places))
+          let size : length (take n letterPlaces) ≡ n = length-take-le n letterPlaces (rw sixteen (omega arith)) in
+          or-in (eqb (length (take n letterPlaces)) 0) (ltb 16 (length (take n letterPlaces)) || any (λ x. leb 256 x) (take n letterPlaces))
           (rw size (ne-eqb n 0 (λ e. absurd (omega arith))))
-          (or-in (ltb 16 (length (take n places))) (any (λ x. leb 256 x) (take n places))
+          (or-in (ltb 16 (length (take n letterPlaces))) (any (λ x. leb 256 x) (take n letterPlaces))
           (rw size (le-ltb 16 n (omega arith)))
-          (any-take (λ x. leb 256 x) 0 n places (λ j h k.
+          (any-take (λ x. leb 256 x) 0 n letterPlaces (λ j h k.
           let i : j < 16 = rw sixteen at k in
           ap (leb 256) (getD-take 16 (drop letters s) j 0 i ∙ getD-drop letters s j 0) ∙ lt-leb 256 (getD s (letters + j) 0) (letter-small j i (rw (c .same) h)))))
 
@@ -180,10 +196,12 @@ module _ (s : List ℕ) (whole : length s ≡ 166) (g : all good (lay table [] s
   listed-good false t h = refl
 
   -- a list behind an optional element that says "yes"
-  included : (k : ℕ) → Optional k (choice 1 2 (is k 1 ∷ [])) → optionalYes s k ≡ true → getD laid (k + 1) 0 ≡ 1
-  included k o y =
-      optional-valued k (choice 1 2 (is k 1 ∷ [])) o (and-l (optional s k) (saysYes s (k + 1)) y) .same
-      ∙ eqb-true (getD s (k + 1) 0) 1 (and-r (optional s k) (saysYes s (k + 1)) y)
+  included : (k t : ℕ) → Optional k (choice 1 2 (given k)) → k + 1 < t → optionalYes s k ≡ true → present (take t laid) (said k) ≡ true
+  included k t o h y =
+      let there = and-l (optional s k) (saysYes s (k + 1)) y in
+      let a = o .after in
+      holds-chain t optionsFollow k (k + 1) 1 (omega arith) (omega arith) h (options k there) (flag k (choice 1 2 (given k)) o there)
+      (optional-valued k (choice 1 2 (given k)) o there .same ∙ eqb-true (getD s (k + 1) 0) 1 (and-r (optional s k) (saysYes s (k + 1)) y))
 
   values-good : (asker : ℕ) → badValues (defineOf asker s) ≡ false
   unfolding defineOf
@@ -192,20 +210,20 @@ module _ (s : List ℕ) (whole : length s ≡ 166) (g : all good (lay table [] s
       (listed-good (saysYes s groupGiven) groupNumbers (λ y. list-good groupNumbers (is groupGiven 1 ∷ []) (omega arith) groups-at
       (holds-is groupNumbers groupGiven 1 (omega arith) (valued groupGiven (choice 1 2 []) (omega arith) given-at refl (always groupGiven) .same ∙ eqb-true (getD s groupGiven 0) 1 y))))
       (or-in (badList (listed s (optionalYes s ownersIncluded) ownerNumbers)) _
-      (listed-good (optionalYes s ownersIncluded) ownerNumbers (λ y. list-good ownerNumbers (is (ownersIncluded + 1) 1 ∷ []) (omega arith) owners-at (holds-is ownerNumbers (ownersIncluded + 1) 1 (omega arith) (included ownersIncluded owners-included-at y))))
+      (listed-good (optionalYes s ownersIncluded) ownerNumbers (λ y. list-good ownerNumbers (said ownersIncluded) (omega arith) owners-at (included ownersIncluded ownerNumbers owners-included-at (omega arith) y)))
       (or-in (badList (listed s (optionalYes s assignment) radioNumbers)) (badParameters (parametersIn s))
-      (listed-good (optionalYes s assignment) radioNumbers (λ y. list-good radioNumbers (is (assignment + 1) 1 ∷ []) (omega arith) radios-at (holds-is radioNumbers (assignment + 1) 1 (omega arith) (included assignment assignment-at y))))
+      (listed-good (optionalYes s assignment) radioNumbers (λ y. list-good radioNumbers (said assignment) (omega arith) radios-at (included assignment radioNumbers assignment-at (omega arith) y)))
       parameters-good))
 
 -- what the frame half does not refuse, `badValues` does not either
-pub sound : (asker : ℕ) (s : List ℕ) → length s ≡ 166 → refuses (judgedOf kind.Define s) ≡ false → badValues (defineOf asker s) ≡ false
+pub sound : (asker : ℕ) (s : List ℕ) → length s ≡ places → refuses (judgedOf kind.Define s) ≡ false → badValues (defineOf asker s) ≡ false
 unfolding judgedOf
 sound asker s whole w = split (all good (lay table [] s))
     (λ g. values-good s whole g asker)
     (λ g. split (all goodButGroup (lay table [] s)) (λ e. clash (rw (g, e) at w)) (λ e. clash (rw (g, e) at w)))
 
 -- so a define's BadOrder is an asker above 24 bits, or a record that the writer refuses
-pub bad-order : (asker : ℕ) (s : List ℕ) → length s ≡ 166
+pub bad-order : (asker : ℕ) (s : List ℕ) → length s ≡ places
     → (wide asker || (refuses (judgedOf kind.Define s) || badValues (defineOf asker s))) ≡ (wide asker || refuses (judgedOf kind.Define s))
 bad-order asker s whole = ap (λ (b : Bool). wide asker || b) (split (refuses (judgedOf kind.Define s))
     (λ r. rw r refl)

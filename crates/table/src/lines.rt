@@ -8,7 +8,7 @@ use layout::Shape;
 use layout::When;
 ghost use mathlib.Core.Path.{_≡_};
 ghost use lib.ListN.{length};
-ghost use Rattle.layout.specs.Table.{tableOf, actionType};
+ghost use Rattle.layout.specs.Table.{define, tableOf, actionType};
 ghost use Rattle.table.specs.Lines.{fronted, linesOf};
 
 // As many as the longest table has lines; and the lines of a short one, which stands at the front of the longest.
@@ -43,11 +43,11 @@ const NAMED: Shape = Shape::List(Items::Letters);
 const BIT: Shape = Shape::Number(1);
 
 // The places that an identity, a list of numbers and a name take.
-const FOUR: u8 = IDENTITY_PLACES as u8;
+const IDENTITY_SPAN: u8 = IDENTITY_PLACES as u8;
 
-const MANY: u8 = NUMBERS_PLACES as u8;
+const NUMBERS_SPAN: u8 = NUMBERS_PLACES as u8;
 
-const LETTERS: u8 = NAME_PLACES as u8;
+const NAME_SPAN: u8 = NAME_PLACES as u8;
 
 // After O-bit 1, and where an option is given.
 const OPTION: When = When::Is(O, 1);
@@ -82,22 +82,22 @@ const DEFINE: [Element; LINES] = [
     Element(When::Is(CALL, IF_YES), Shape::Number(14), 1),
     Element(When::Always, YES_NO, 1),
     Element(When::Is(CALL, IF_NO), Shape::Missing(GROUP), 1),
-    Element(When::Is(GROUP, IF_YES), NUMBERS, MANY),
+    Element(When::Is(GROUP, IF_YES), NUMBERS, NUMBERS_SPAN),
     Element(When::Always, BIT, 1),
     Element(OPTION, BIT, 1),
     Element(SET_REFERENCE_IS, Shape::Number(3), 1),
     Element(OPTION, BIT, 1),
     Element(OWNERS_INCLUDED_IS, YES_NO, 1),
-    Element(OWNERS_ARE, NUMBERS, MANY),
+    Element(OWNERS_ARE, NUMBERS, NUMBERS_SPAN),
     Element(OPTION, BIT, 1),
     Element(ACKNOWLEDGED_CALL_IS, YES_NO, 1),
     Element(OPTION, BIT, 1),
     Element(BROADCAST_IS, YES_NO, 1),
     Element(OPTION, BIT, 1),
-    Element(NAME_IS, NAMED, LETTERS),
+    Element(NAME_IS, NAMED, NAME_SPAN),
     Element(OPTION, BIT, 1),
     Element(ASSIGNMENT_IS, YES_NO, 1),
-    Element(RADIOS_ARE, NUMBERS, MANY),
+    Element(RADIOS_ARE, NUMBERS, NUMBERS_SPAN),
     Element(OPTION, BIT, 1),
     Element(ACKNOWLEDGEMENT_IS, Shape::Choice(1, 1), 1),
     Element(OPTION, BIT, 1),
@@ -114,7 +114,7 @@ const DEFINE: [Element; LINES] = [
 const DEFINE_ACK: [Element; SHORT] = [
     Element(When::Always, YES_NO, 1),
     Element(When::Is(CALL, IF_YES), Shape::Number(14), 1),
-    Element(When::Always, NUMBERS, MANY),
+    Element(When::Always, NUMBERS, NUMBERS_SPAN),
     Element(When::Always, Shape::Number(4), 1),
     Element(When::Always, BIT, 1),
     Element(When::Is(ACK_O, 1), Shape::Ending, 1),
@@ -126,8 +126,8 @@ const DEFINE_ACK: [Element; SHORT] = [
 const CANCEL: [Element; SHORT] = [
     Element(When::Always, YES_NO, 1),
     Element(When::Is(CALL, IF_YES), Shape::Number(14), 1),
-    Element(When::Is(CALL, IF_NO), Shape::Identity, FOUR),
-    Element(When::Always, Shape::Identity, FOUR),
+    Element(When::Is(CALL, IF_NO), Shape::Identity, IDENTITY_SPAN),
+    Element(When::Always, Shape::Identity, IDENTITY_SPAN),
     PAST,
     PAST,
     PAST,
@@ -138,7 +138,7 @@ const CANCEL: [Element; SHORT] = [
 const CANCEL_ACK: [Element; SHORT] = [
     Element(When::Always, YES_NO, 1),
     Element(When::Is(CALL, IF_YES), Shape::Number(14), 1),
-    Element(When::Is(CALL, IF_NO), Shape::Identity, FOUR),
+    Element(When::Is(CALL, IF_NO), Shape::Identity, IDENTITY_SPAN),
     Element(When::Always, BIT, 1),
     PAST,
     PAST,
@@ -146,11 +146,18 @@ const CANCEL_ACK: [Element; SHORT] = [
     PAST,
 ];
 
-// A short table at the front of table 19, of which the rest is not gone over.
+// The longest table.
+fn longest() -> [Element; LINES]
+    ensures { λ r. ⌜ r ≡ define .elements ⌝ }
+{
+    DEFINE
+}
+
+// A short table at the front of the longest, of which the rest is not gone over.
 fn front(short: [Element; SHORT]) -> [Element; LINES]
     ensures { λ r. ⌜ r ≡ fronted short ⌝ }
 {
-    let mut table = DEFINE;
+    let mut table = longest();
     table[0] = short[0];
     table[1] = short[1];
     table[2] = short[2];
@@ -167,7 +174,7 @@ pub fn table_of(kind: Kind) -> [Element; LINES]
     ensures { λ r. ⌜ r ≡ linesOf kind ⌝ }
 {
     match kind {
-        Kind::Define => DEFINE,
+        Kind::Define => longest(),
         Kind::DefineAck => front(DEFINE_ACK),
         Kind::Cancel => front(CANCEL),
         Kind::CancelAck => front(CANCEL_ACK),

@@ -68,6 +68,9 @@ pub const NAME_GIVEN: usize = 95;
 
 pub const NAME: usize = 96;
 
+// The letters follow their count.
+pub const LETTERS: usize = NAME + 1;
+
 pub const ASSIGNMENT_GIVEN: usize = 113;
 
 pub const ASSIGNMENT: usize = 114;

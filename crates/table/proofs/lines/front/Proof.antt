@@ -7,6 +7,9 @@ use borrow.Author.Needs.{needs}
 use Rattle.table.proofs.lines.front.Statement.{statement}
 use Rattle.table.proofs.lines.front.Tie as tie
 
+longest-requires : tie.Need-longest-requires
+longest-requires c κs = search needs
+
 array-copy-out-table : tie.Need-array-copy-out-table
 array-copy-out-table c = search needs
 
@@ -57,12 +60,13 @@ array-set-from-table-8 c = search needs
 
 returns : tie.Need-returns
 unfolding define span spans
-returns c = short-lines (c .before .before .before .before .before .before .before .before .args .t1) _ (search needs)
+returns c = rw (c .before .before .before .before .before .before .before .before .longest .ensures) (short-lines (c .before .before .before .before .before .before .before .before .before .args .t1) _ (search needs))
 
 pub front-spec : {M : Type 1} → statement M
 front-spec =
     tie.close
     (tie.spec
+    longest-requires
     array-copy-out-table
     array-set-from-table
     array-copy-out-table-2

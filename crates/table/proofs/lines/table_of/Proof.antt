@@ -1,13 +1,16 @@
 -- `table::lines::table_of` meets its contract: the code's tables are those of the definitions.
 -- Assumes nothing.
 use Rattle.layout.specs.Shape.{span, spans}
-use Rattle.layout.specs.Table.{define, defineAck, cancel, cancelAck}
+use Rattle.layout.specs.Table.{defineAck, cancel, cancelAck}
 use borrow.Author.Needs.{needs}
 use Rattle.table.proofs.lines.table_of.Statement.{statement}
 use Rattle.table.proofs.lines.table_of.Tie as tie
 
 enum-told : tie.Need-enum-told
 enum-told c = search needs
+
+longest-requires : tie.Need-longest-requires
+longest-requires c κs = search needs
 
 enum-told-2 : tie.Need-enum-told-2
 enum-told-2 c = search needs
@@ -28,8 +31,7 @@ front-requires-3 : tie.Need-front-requires-3
 front-requires-3 c κs = search needs
 
 returns : tie.Need-returns
-unfolding define span spans
-returns c = rw (c .enum-told .given .1)
+returns c = rw (c .before .enum-told .given .1) (c .longest .ensures)
 
 returns-2 : tie.Need-returns-2
 unfolding defineAck span spans
@@ -48,6 +50,7 @@ table-of-spec =
     tie.close
     (tie.spec
     enum-told
+    longest-requires
     enum-told-2
     front-requires
     enum-told-3
