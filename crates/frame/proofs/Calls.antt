@@ -1,13 +1,15 @@
 -- The round trip over the contracts of `read` and `write` themselves: what the one's call leaves, the other's call takes.
 -- `Post` is a contract's claim as the checker reads it: of the arguments, the result, and what the parameters hold at exit.
 -- Assumes nothing.
-use Prim.Native.Nat.{ℕ, _+_, _≤_}
-use mathlib.Core.Path.{_≡_, sym, ap, _∙_}
+use Prim.Native.Nat.{ℕ, _+_, _*_, _≤_}
+use mathlib.Core.Path.{_≡_, refl, sym, ap, _∙_}
 use mathlib.Core.List.{List, _++_}
 use borrow.Fn.Kinds.{endedOf}
 use contract.Lifetimes.{Lfts}
 use denote.Ref.{RefT, now}
 use denote.Triple.Clauses.{AtExit}
+use borrow.Author.Tests.{le-ltb}
+use lib.Dec.{T}
 use lib.ListN.{length, take, drop}
 use Rattle.bits.specs.Bits.{bitsOf, bytesFor, bytesOf}
 use Rattle.layout.specs.declared.Kind.{Kind}
@@ -16,8 +18,10 @@ use Rattle.layout.specs.declared.Reading.{Reading}
 use Rattle.layout.specs.declared.Verdict.the-variants.{Frame}
 use Rattle.layout.specs.declared.Written.{Written}
 use Rattle.layout.specs.declared.Written.the-variants.{Bits}
-use Rattle.layout.specs.Frame.{readingOf, clean}
-use Rattle.layout.proofs.Frames.{accepted, write-then-read, MadeAgain, read-then-write}
+use Rattle.layout.specs.Read as answer
+use Rattle.layout.specs.Frame as spec
+use Rattle.layout.specs.Frame.{readBytes, asReading, readingOf, clean, valid}
+use Rattle.layout.proofs.Frames.{accepted, valid-judged, write-fits, write-then-read, MadeAgain, read-then-write}
 use Rattle.frame.proofs.read.Kinds as read-kinds
 use Rattle.frame.proofs.read.Reads as read
 use Rattle.frame.proofs.write.Kinds as write-kinds
@@ -50,3 +54,17 @@ module _ (κs λs : Lfts 1) (kind : Kind) (out frame : RefT (List ℕ)) (start c
       let found : readingOf kind (now frame) count .verdict ≡ Frame = ap (λ (x : Reading). x .verdict) (sym r) ∙ taken in
       let again : MadeAgain kind (now frame) count (reading .values .place) = rw r (read-then-write kind (now frame) count found) in
       (w .0 ∙ again .told (now out) start fit, w .1 ∙ again .made (now out) start fit)
+
+  -- a record that has a frame, with room for it, is written, with its length: a writer that refuses everything is none
+  pub valid-is-written : (values : Record) (written : Written) → T (valid kind (values .place)) → start + bytesFor (length (spec.write kind (values .place))) ≤ length (now out)
+      → write.Post κs (kind, (values, (out, (start, tt)))) written left
+      → written ≡ Bits (length (spec.write kind (values .place)))
+  valid-is-written values written good fit w =
+      w .0 ∙ write-fits kind (values .place) (length (spec.write kind (values .place))) (valid-judged kind (values .place) good) refl (length (now out)) start fit
+
+  -- bits that are a frame are taken: a reader that refuses everything is none
+  pub frame-is-taken : (s : List ℕ) → count ≤ 8 * length (now frame) → spec.read kind (take count (bitsOf (now frame))) ≡ answer.frame s
+      → read.Post λs (kind, (frame, (count, tt))) reading after
+      → reading ≡ accepted s
+  unfolding readingOf readBytes asReading
+  frame-is-taken s enough e r = r ∙ rw (le-ltb (8 * length (now frame)) count enough, e)

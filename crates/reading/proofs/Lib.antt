@@ -1,3 +1,4 @@
 pub mod ReadLaws
 pub mod RefusalLaws
 pub mod Going
+pub mod Unique

@@ -6,3 +6,4 @@ pub mod ShapeLaws
 pub mod FieldLaws
 pub mod TestLaws
 pub mod TableLaws
+pub mod Unique
