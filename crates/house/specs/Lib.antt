@@ -3,6 +3,7 @@ pub mod Hex
 pub mod Tables
 pub mod Kinds
 pub mod Heading
+pub mod Says
 pub mod Unpacked
 pub mod Echo
 pub mod Sent
