@@ -1,7 +1,7 @@
 -- What the heading of any line says: 9 exactly where the line is not in house text.
 -- Assumes nothing.
 use Prim.Native.Nat.{ℕ, _+_, _*_}
-use mathlib.Core.Path.{_≡_, refl, sym, ap, _∙_}
+use mathlib.Core.Path.{_≡_, refl, sym, ap}
 use mathlib.Core.Bool.{Bool, true, false, cond, _&&_, _||_}
 use mathlib.Core.List.{List, [], _∷_}
 use borrow.Author.Tests.{eqb-true}
@@ -11,11 +11,10 @@ use Rattle.bits.specs.Bits.{bytesFor}
 use Rattle.refusal.specs.Says.{Says, accepted, refusedWith}
 use Rattle.refusal.specs.declared.Refusal.the-variants.{BadLine}
 use Rattle.layout.specs.declared.Kind.{Kind}
-use Rattle.house.specs.declared.Line.{Line}
 use Rattle.house.specs.declared.Line.the-variants.{Frame, Bad}
 use Rattle.house.specs.Hex.{allDigits, bytesFrom}
 use Rattle.house.specs.Kinds.{kindNumber, kinds}
-use Rattle.house.specs.Heading.{bitCount, named, headed, headingOf}
+use Rattle.house.specs.Heading.{bitCount, named, headingOf}
 use Rattle.house.specs.Says.{lineSays, known, goodLine}
 
 -- by kinds: the one of that number, if it is among them

@@ -1,9 +1,9 @@
 -- On a chain a test of the record as it is handed over and a test of the cleaned record agree: whoever tests chains needs no cleaned copy.
 -- Assumes nothing.
 use Prim.Native.Nat.{ℕ, zero, suc, _<_}
-use mathlib.Core.Path.{_≡_, refl, ap, sym, _∙_, subst}
-use mathlib.Core.Bool.{Bool, true, false, cond, not, _&&_, _||_}
-use mathlib.Core.List.{List, [], _∷_, _++_, append-assoc, append-nil, tail}
+use mathlib.Core.Path.{_≡_, refl, _∙_}
+use mathlib.Core.Bool.{Bool, true, false, not, _&&_}
+use mathlib.Core.List.{List, [], _∷_, _++_, append-assoc, append-nil}
 use native.Mathlib.Omega.{arith}
 use borrow.Author.Tests.{eqb-true}
 use lib.Dec.{T, eqb, ltb, ltb→lt}
@@ -15,7 +15,7 @@ use Rattle.layout.specs.declared.Element.{Element}
 use Rattle.layout.specs.Row.{Condition, is, atLeast, nothingSince, Row, holds, all, present, nothing, there}
 use Rattle.layout.specs.Shape.{rowsOf, repeated, span, spans, conditionsOf, unrolled}
 use Rattle.layout.specs.Table.{define, defineAck, cancel, cancelAck, tableOf}
-use Rattle.layout.specs.Write.{Laid, idle, held, lay, vals}
+use Rattle.layout.specs.Write.{idle, held, lay, vals}
 use Rattle.layout.specs.Frame.{rows, clean}
 use Rattle.layout.specs.Chain.{same, among, earlier, under, chained}
 use Rattle.layout.proofs.Tests.{left, right, told, either, all-append}

@@ -1,26 +1,17 @@
 -- Reading, part way: what the reader's parts promise of the rows that they go over.
 -- Assumes nothing.
-use Prim.Native.Nat.{ℕ, _+_, _-_, _^_, _≤_, _<_}
+use Prim.Native.Nat.{ℕ, _+_, _-_}
 use mathlib.Core.Path.{_≡_}
-use mathlib.Core.Bool.{Bool, true, false, _&&_}
-use mathlib.Core.List.{List, [], _∷_, _++_}
-use lib.Dec.{eqb, leb, ltb}
-use lib.ListN.{length, take, drop, getD}
+use mathlib.Core.Bool.{Bool, true, false}
+use mathlib.Core.List.{List, _++_}
+use lib.ListN.{length, take, drop}
 use Rattle.refusal.specs.declared.Refusal.{Refusal}
-use Rattle.refusal.specs.Number.{numberOf}
 use Rattle.bits.specs.Bits.{bitsOf}
 use Rattle.reading.specs.declared.Step.{Step}
 use Rattle.reading.specs.declared.Step.the-variants.{Next, Refused}
-use Rattle.table.specs.declared.Field.{Field}
-use Rattle.layout.specs.declared.When.{When}
-use Rattle.layout.specs.declared.When.the-variants.{Always, Is}
-use Rattle.layout.specs.declared.Element.{Element}
-use Rattle.layout.specs.declared.Shape.{Shape}
-use Rattle.layout.specs.declared.Shape.the-variants.{Number, Choice, Identity, Ending, Missing, Nothing}
 use Rattle.layout.specs.declared.Shape.the-variants as shape
-use Rattle.layout.specs.Row.{Row, Condition}
+use Rattle.layout.specs.Row.{Row}
 use Rattle.layout.specs.Read.{Answer, refused, readRows}
-use Rattle.layout.specs.Shape.{row, span}
 
 -- a frame of `count` bits in lent bytes
 abbrev pub whole : List ℕ → ℕ → List Bool

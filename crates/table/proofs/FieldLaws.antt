@@ -1,6 +1,6 @@
 -- The fields of a sound shape: narrow ones, each the row that the definitions have.
 -- Assumes nothing.
-use Prim.Native.Nat.{ℕ, _+_, _*_, _%_, _^_, _≤_, _<_}
+use Prim.Native.Nat.{ℕ, _*_, _%_, _^_, _≤_, _<_}
 use mathlib.Core.Path.{_≡_, refl, ap, _∙_}
 use mathlib.Core.List.{[]}
 use native.Mathlib.Nat.{mod-eq-of-lt, one-mul, lt-of-le-of-lt}
@@ -8,7 +8,7 @@ use native.Mathlib.Omega.{arith}
 use lib.Pow.{pow-mono}
 use Rattle.layout.specs.declared.Items.{Items}
 use Rattle.layout.specs.declared.Items.the-variants.{Numbers, Letters}
-use Rattle.layout.specs.Shape.{number, choice}
+use Rattle.layout.specs.Shape.{number}
 use Rattle.table.specs.Fields.{rowFor, Narrow, numberField, choiceField, countField}
 
 -- one shifted by less than 32 is the power

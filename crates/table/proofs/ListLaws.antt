@@ -66,10 +66,6 @@ module _ (W : Walk) (items : Items) (t p v : ℕ) (x : W .State) (before : t < p
       off : present (take p (W .values x)) (atLeast t v ∷ []) ≡ false
       off = rw (getD-take p (W .values x) t 0 before, lt-leb v (getD (W .values x) t 0) h)
 
-pub times-most : (items : Items) → times items ≤ 16
-times-most Numbers = omega arith
-times-most Letters = omega arith
-
 -- ---- the items' loop: i of them are passed, and the next begins at the place p
 pub record Listing (W : Walk) (items : Items) (from t : ℕ) (x y : W .State) (at p i : ℕ) : Type 0 where
   pub place : p ≡ t + 1 + stride items * i

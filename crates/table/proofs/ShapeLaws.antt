@@ -1,32 +1,23 @@
 -- The rows of an element that is there, shape by shape.
 -- Assumes nothing.
-use Prim.Native.Nat.{ℕ, suc, _+_, _*_, _^_, _%_, _≤_, _<_}
+use Prim.Native.Nat.{ℕ, _+_, _*_, _^_, _≤_, _<_}
 use mathlib.Core.Path.{_≡_, refl, ap, sym, _∙_, subst}
-use mathlib.Core.Bool.{Bool, true, false, _&&_}
+use mathlib.Core.Bool.{true, _&&_}
 use mathlib.Core.List.{List, [], _∷_}
-use native.Mathlib.Nat.{mod-eq-of-lt, one-mul, lt-of-le-of-lt}
-use native.Mathlib.Numerals.{add-one}
 use native.Mathlib.Omega.{arith}
-use borrow.Author.Tests.{le-ltb}
-use lib.Dec.{T, eqb, leb, ltb, leb→le, ltb→lt}
-use lib.Pow.{pow-mono}
-use lib.ListN.{length, take, drop, getD, drop-of-length-le}
-use lib.Seq.{drop-cons, getD-take, length-take-le}
-use Rattle.refusal.specs.declared.Refusal.{Refusal}
+use lib.Dec.{T, leb, ltb, leb→le, ltb→lt}
+use lib.ListN.{take}
 use Rattle.refusal.specs.declared.Refusal.the-variants.{Reserved, NoGroup, NothingFollows, TypeThree}
-use Rattle.bits.specs.Bits.{value}
 use Rattle.layout.specs.declared.Items.{Items}
 use Rattle.layout.specs.declared.Items.the-variants.{Numbers, Letters}
 use Rattle.layout.specs.declared.Shape.{Shape}
 use Rattle.layout.specs.declared.Shape.the-variants.{Number, Choice, Identity, Ending, Missing, Nothing}
 use Rattle.layout.specs.declared.Shape.the-variants as shape
-use Rattle.layout.specs.declared.When.{When}
-use Rattle.layout.specs.declared.When.the-variants.{Is}
-use Rattle.layout.specs.Row.{Row, Condition, is, nothingSince, all, present}
-use Rattle.layout.specs.Shape.{row, number, choice, refuse, No, codesOf, times, stride, identity, rowsOf, span, conditionsOf}
+use Rattle.layout.specs.Row.{Row, Condition, is, nothingSince, present}
+use Rattle.layout.specs.Shape.{row, number, choice, No, codesOf, times, stride, identity, rowsOf, span}
 use Rattle.table.specs.Sound.{sound}
 use Rattle.table.proofs.Walks.{Walk}
-use Rattle.layout.proofs.Tests.{left, right, and-true}
+use Rattle.layout.proofs.Tests.{left, right}
 
 -- ---- shape by shape
 pub sound-number : (s : Shape) (p w : ℕ) → s ≡ Number w → T (sound s p) → (0 < w) × (w ≤ 24)
@@ -65,13 +56,13 @@ module _ (W : Walk) (s : Shape) (at p : ℕ) (x y : W .State) (r : W .Result) wh
   shape-row : (c : Row) → rowsOf s [] p ≡ c ∷ [] → W .Goes (c ∷ []) at p x y r → W .Goes (rowsOf s [] p) at p x y r
   shape-row c e f = subst (λ (l : List Row). W .Goes l at p x y r) (sym e) f
 
-  pub shape-number : (w w′ : ℕ) (c : Row) → s ≡ Number w → w′ ≡ w → c ≡ number w′ [] → W .Goes (c ∷ []) at p x y r → W .Goes (rowsOf s [] p) at p x y r
+  pub shape-number : (w : ℕ) (c : Row) → s ≡ Number w → c ≡ number w [] → W .Goes (c ∷ []) at p x y r → W .Goes (rowsOf s [] p) at p x y r
   unfolding rowsOf
-  shape-number w w′ c e g d f = shape-row c (ap (λ (t : Shape). rowsOf t [] p) e ∙ ap (λ (v : ℕ). number v [] ∷ []) (sym g) ∙ ap (λ (y : Row). y ∷ []) (sym d)) f
+  shape-number w c e d f = shape-row c (ap (λ (t : Shape). rowsOf t [] p) e ∙ ap (λ (y : Row). y ∷ []) (sym d)) f
 
-  pub shape-choice : (w w′ n : ℕ) (c : Row) → s ≡ Choice w n → w′ ≡ w → c ≡ choice w′ n [] → W .Goes (c ∷ []) at p x y r → W .Goes (rowsOf s [] p) at p x y r
+  pub shape-choice : (w n : ℕ) (c : Row) → s ≡ Choice w n → c ≡ choice w n [] → W .Goes (c ∷ []) at p x y r → W .Goes (rowsOf s [] p) at p x y r
   unfolding rowsOf
-  shape-choice w w′ n c e g d f = shape-row c (ap (λ (t : Shape). rowsOf t [] p) e ∙ ap (λ (v : ℕ). choice v n [] ∷ []) (sym g) ∙ ap (λ (y : Row). y ∷ []) (sym d)) f
+  shape-choice w n c e d f = shape-row c (ap (λ (t : Shape). rowsOf t [] p) e ∙ ap (λ (y : Row). y ∷ []) (sym d)) f
 
   pub shape-ending : s ≡ Ending → W .Goes (row 1 0 1 TypeThree 0 [] ∷ []) at p x y r → W .Goes (rowsOf s [] p) at p x y r
   unfolding rowsOf

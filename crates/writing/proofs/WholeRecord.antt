@@ -16,7 +16,7 @@ use Rattle.layout.specs.declared.When.{When}
 use Rattle.writing.specs.declared.Laying.{Laying}
 use Rattle.writing.specs.declared.Laying.the-variants as laying
 use Rattle.writing.specs.declared.Walked.the-variants as walked
-use Rattle.layout.specs.Row.{Row, all, present}
+use Rattle.layout.specs.Row.{Row, all}
 use Rattle.layout.specs.Shape.{rowsOf, span, conditionsOf, unrolled}
 use Rattle.layout.specs.Table.{tableOf}
 use Rattle.layout.specs.Frame.{rows, places, headBits, laid}

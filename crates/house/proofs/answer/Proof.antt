@@ -5,11 +5,6 @@ use Rattle.house.proofs.Texts.{sent}
 use borrow.Author.Needs.{needs}
 use Rattle.house.proofs.answer.Statement.{statement}
 use Rattle.house.proofs.answer.Tie as tie
-use Rattle.house.proofs.answer.Reads as reads
-use Rattle.house.proofs.answer.Lts as lts
-use Rattle.frame.proofs.read.Reads as read-reads
-use Rattle.house.proofs.refuse.Reads as refuse-reads
-use Rattle.house.proofs.remake.Reads as remake-reads
 
 read-requires : tie.Need-read-requires
 read-requires c κs = search needs

@@ -88,8 +88,8 @@ returns : tie.Need-returns
 returns c =
     let s = c .before .before .before .before .before .before .before .before .before .before in
     let f = sound-number (s .args .shape) (s .args .place) _ (c .before .before .before .before .before .before .shape .given .1) (s .pre .3) in
-    shape-number (reading (whole (s .args .frame .now) (s .args .bits))) (s .args .shape) (s .args .at) (s .args .place) (s .args .values .now) _ _ _ _ _
-    (c .before .before .before .before .before .before .shape .given .1) refl (ap (λ x. rowFor x []) (c .before .before .before .number .ensures) ∙ number-row _ (f .0) (f .1)) (c .before .before .read-field .ensures)
+    shape-number (reading (whole (s .args .frame .now) (s .args .bits))) (s .args .shape) (s .args .at) (s .args .place) (s .args .values .now) _ _ _ _
+    (c .before .before .before .before .before .before .shape .given .1) (ap (λ x. rowFor x []) (c .before .before .before .number .ensures) ∙ number-row _ (f .0) (f .1)) (c .before .before .read-field .ensures)
 
 same-length-2 : tie.Need-same-length-2
 same-length-2 c = search needs
@@ -97,8 +97,8 @@ same-length-2 c = search needs
 returns-2 : tie.Need-returns-2
 returns-2 c =
     let s = c .before .before .before .before .before .before .before .before .before .before in
-    shape-choice (reading (whole (s .args .frame .now) (s .args .bits))) (s .args .shape) (s .args .at) (s .args .place) (s .args .values .now) _ _ _ _ _ _
-    (c .before .before .before .before .before .before .shape2 .given .1) refl (ap (λ x. rowFor x []) (c .before .before .before .choice .ensures)) (c .before .before .read-field2 .ensures)
+    shape-choice (reading (whole (s .args .frame .now) (s .args .bits))) (s .args .shape) (s .args .at) (s .args .place) (s .args .values .now) _ _ _ _ _
+    (c .before .before .before .before .before .before .shape2 .given .1) (ap (λ x. rowFor x []) (c .before .before .before .choice .ensures)) (c .before .before .read-field2 .ensures)
 
 same-length-3 : tie.Need-same-length-3
 same-length-3 c = search needs

@@ -6,7 +6,7 @@ use mathlib.Core.Path.{_≡_, _∙_}
 use native.Mathlib.Omega.{arith}
 use Rattle.layout.specs.Shape.{times}
 use Rattle.reading.specs.Reads.{whole}
-use Rattle.table.proofs.ListLaws.{Listing, listing-none, listing-room, listing-more, listing-stop, times-most}
+use Rattle.table.proofs.ListLaws.{Listing, listing-none, listing-room, listing-more, listing-stop}
 use borrow.Author.Needs.{needs}
 use Rattle.reading.proofs.items.read_items.Statement.{statement}
 use Rattle.reading.proofs.items.read_items.Tie as tie

@@ -3,7 +3,6 @@
 use mathlib.Core.Path.{refl}
 use Rattle.layout.specs.Shape.{span, spans}
 use Rattle.layout.specs.Table.{define}
-use borrow.Author.Needs.{needs}
 use Rattle.table.proofs.lines.longest.Statement.{statement}
 use Rattle.table.proofs.lines.longest.Tie as tie
 

@@ -3,7 +3,6 @@
 use mathlib.Core.Path.{refl}
 use Rattle.layout.specs.Shape.{span, spans}
 use Rattle.layout.specs.Table.{defineAck}
-use borrow.Author.Needs.{needs}
 use Rattle.table.proofs.place.define_ack_places.Statement.{statement}
 use Rattle.table.proofs.place.define_ack_places.Tie as tie
 

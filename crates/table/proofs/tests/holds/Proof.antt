@@ -1,8 +1,6 @@
 -- `table::tests::holds` meets its contract.
 -- Assumes nothing.
 use lib.ListN.{List·getD-eq-default}
-use mathlib.Core.Path.{sym, ap}
-use lib.Dec.{eqb}
 use lib.ListN.{List·getD-eq-default}
 use borrow.Author.Needs.{needs}
 use Rattle.table.proofs.tests.holds.Statement.{statement}

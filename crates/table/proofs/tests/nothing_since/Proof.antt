@@ -1,7 +1,7 @@
 -- `table::tests::nothing_since` meets its contract. The loop's invariant: what is left decides.
 -- Assumes nothing.
 use Prim.Native.Nat.{_-_, suc}
-use mathlib.Core.Path.{_≡_, refl, sym, _∙_}
+use mathlib.Core.Path.{_≡_, sym, _∙_}
 use native.Mathlib.Omega.{arith}
 use borrow.Author.Tests.{ne-eqb, eq-eqb}
 use lib.Dec.{eqb}

@@ -1,7 +1,7 @@
 -- `writing::elements::lay_elements` meets its contract. The loop's invariant: what is laid so far, and what is left.
 -- Assumes nothing.
 use Prim.Native.Nat.{_-_}
-use mathlib.Core.Path.{sym, _∙_}
+use mathlib.Core.Path.{sym}
 use native.Mathlib.Omega.{arith}
 use lib.ListN.{take}
 use Rattle.table.proofs.TableLaws.{Held, table-held}

@@ -113,7 +113,7 @@ returns c =
     let f = sound-number (s .args .shape) (s .args .place) _ (shape .given .1) (s .pre .1) in
     puts-told _ _ _ _ _ _ _ _ _ _ (c .told .ensures)
     (shape-number (laying (s .args .values .now)) (s .args .shape) (s .args .at) (s .args .place) (kept (s .args .clean .now) (s .args .out .now))
-    (kept (lay-field .last .1 .0) (lay-field .last .1 .1 .0)) _ _ _ _ (shape .given .1) refl
+    (kept (lay-field .last .1 .0) (lay-field .last .1 .1 .0)) _ _ _ (shape .given .1)
     (ap (λ x. rowFor x []) (number .ensures) ∙ number-row _ (f .0) (f .1)) (lay-field .ensures))
 
 same-length-3 : tie.Need-same-length-3
@@ -130,7 +130,7 @@ returns-2 c =
     let lay-field2 = c .before .before .before .before .before .lay-field2 in
     puts-told _ _ _ _ _ _ _ _ _ _ (c .told2 .ensures)
     (shape-choice (laying (s .args .values .now)) (s .args .shape) (s .args .at) (s .args .place) (kept (s .args .clean .now) (s .args .out .now))
-    (kept (lay-field2 .last .1 .0) (lay-field2 .last .1 .1 .0)) _ _ _ _ _ (shape2 .given .1) refl
+    (kept (lay-field2 .last .1 .0) (lay-field2 .last .1 .1 .0)) _ _ _ _ (shape2 .given .1)
     (ap (λ x. rowFor x []) (choice .ensures)) (lay-field2 .ensures))
 
 same-length-5 : tie.Need-same-length-5
