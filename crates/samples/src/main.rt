@@ -1,11 +1,14 @@
-// Document 01's samples that are run: the shortest DEFINE and the longest are written into a longer buffer, from a byte on, and read again there.
+// Document 01's samples that are run: the shortest DEFINE and the longest are written into a longer buffer, from a byte on, and read again there; and a record without a code.
 use frame::Kind;
+use frame::PLACES;
 use frame::Reading;
 use frame::Record;
 use frame::Verdict;
 use frame::Written;
 use frame::place::*;
+use refusal::number;
 ghost use Prim.Native.Nat.{_+_, _≤_, _<_};
+ghost use Rattle.layout.specs.Frame.{places};
 
 // What the buffer holds before: a byte that no DEFINE ends with.
 const FILLER: u8 = 0xFF;
@@ -15,6 +18,17 @@ const START: usize = 5;
 fn main() {
     run(b"shortest DEFINE: ", shortest());
     run(b"longest DEFINE: ", longest());
+    run(
+        b"acknowledgement with another value than requested: ",
+        unrequested(),
+    );
+}
+
+// The shortest, with an acknowledgement that is there and is not requested: a value without a code.
+fn unrequested() -> Record {
+    let mut values = shortest();
+    values.place[O_BIT] = 1;
+    option(values, ACKNOWLEDGEMENT, NO)
 }
 
 // A call, no group, nothing that is optional.
@@ -48,7 +62,7 @@ fn longest() -> Record {
 
 // An optional element, behind its P-bit.
 fn option(values: Record, place: usize, value: u32) -> Record
-    requires { ⌜ (0 < place) × (place < 166) ⌝ }
+    requires { ⌜ (0 < place) × (place < places) ⌝ }
 {
     let mut r = values;
     r.place[place - 1] = 1;
@@ -71,7 +85,7 @@ fn lists(values: Record) -> Record {
 
 // A list of ten identities, behind its number type.
 fn list(values: Record, place: usize) -> Record
-    requires { ⌜ place + 41 ≤ 166 ⌝ }
+    requires { ⌜ place + 41 ≤ places ⌝ }
 {
     let mut r = values;
     r.place[place] = 11;
@@ -83,7 +97,7 @@ fn list(values: Record, place: usize) -> Record
 
 // An identity: its form, then SSI and extension, each its place's number.
 fn identity(values: Record, place: usize) -> Record
-    requires { ⌜ place + 4 ≤ 166 ⌝ }
+    requires { ⌜ place + 4 ≤ places ⌝ }
 {
     let mut r = values;
     r.place[place] = EXTENDED_FORM;
@@ -108,8 +122,10 @@ fn run(name: &[u8], values: Record) {
                 io::write_all(1, b", read otherwise\n");
             }
         }
-        Written::Refused(_) => {
-            io::write_all(1, b"refused\n");
+        Written::Refused(refusal) => {
+            io::write_all(1, b"refused with ");
+            io::print_decimal(1, number(refusal) as u64);
+            io::write_all(1, b"\n");
         }
     }
 }
@@ -136,7 +152,7 @@ fn alike(values: Record, again: Reading) -> bool {
 }
 
 fn same(a: Record, b: Record) -> bool {
-    for i in 0..166 {
+    for i in 0..PLACES {
         if a.place[i] != b.place[i] {
             return false;
         }
