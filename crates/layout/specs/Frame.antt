@@ -41,10 +41,10 @@ places = 166
 unfoldable pub read : Kind → List Bool → Answer
 read kind bits =
     cond (ltb (length bits) 6) (refused EndsInside 0)
-    (cond (ltb (length bits) 10) (refused EndsInside 6)
+    (cond (ltb (length bits) headBits) (refused EndsInside 6)
     (cond (not (eqb (value (take 6 bits)) ssType)) (refused WrongKind 0)
     (cond (not (eqb (value (take 4 (drop 6 bits))) (actionType kind))) (refused WrongKind 6)
-    (readRows (rows kind) [] 10 (drop 10 bits)))))
+    (readRows (rows kind) [] headBits (drop headBits bits)))))
 
 -- a frame of `count` bits in lent bytes
 unfoldable pub readBytes : Kind → List ℕ → ℕ → Answer

@@ -80,12 +80,16 @@ rowsOf Ending hang p = row 1 0 1 TypeThree 0 hang ∷ []
 rowsOf (Missing place) hang p = refuse NoGroup 1 (is place No ∷ hang) ∷ []
 rowsOf (Nothing o) hang p = refuse NothingFollows 1 (nothingSince o ∷ hang) ∷ []
 
--- how many rows that is
+-- the places of a list: 41 of numbers, 17 of letters
+abbrev pub listPlaces : Items → ℕ
+listPlaces items = suc (stride items * times items)
+
+-- how many rows a shape has
 unfoldable pub span : Shape → ℕ
 span (Number w) = 1
 span (Choice w n) = 1
 span Identity = 4
-span (shape.List items) = suc (stride items * times items)
+span (shape.List items) = listPlaces items
 span Ending = 1
 span (Missing place) = 1
 span (Nothing o) = 1

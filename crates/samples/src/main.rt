@@ -8,7 +8,9 @@ use frame::Written;
 use frame::place::*;
 use refusal::number;
 ghost use Prim.Native.Nat.{_+_, _≤_, _<_};
+ghost use Rattle.layout.specs.declared.Items.the-variants.{Numbers};
 ghost use Rattle.layout.specs.Frame.{places};
+ghost use Rattle.layout.specs.Shape.{listPlaces};
 
 // What the buffer holds before: a byte that no DEFINE ends with.
 const FILLER: u8 = 0xFF;
@@ -73,7 +75,7 @@ fn option(values: Record, place: usize, value: u32) -> Record
 // Sixteen letters, each its place's number.
 fn letters(values: Record) -> Record {
     let mut r = values;
-    for i in NAME + 1..NAME + 17 {
+    for i in NAME + 1..NAME + NAME_PLACES {
         r.place[i] = i as u32;
     }
     r
@@ -85,7 +87,7 @@ fn lists(values: Record) -> Record {
 
 // A list of ten identities, behind its number type.
 fn list(values: Record, place: usize) -> Record
-    requires { ⌜ place + 41 ≤ places ⌝ }
+    requires { ⌜ place + listPlaces Numbers ≤ places ⌝ }
 {
     let mut r = values;
     r.place[place] = 11;
