@@ -26,13 +26,13 @@ const CALL: u8 = CALL_RELATED as u8;
 
 const GROUP: u8 = GIVEN as u8;
 
-const O: u8 = O_BIT as u8;
+const OPTIONS: u8 = O_BIT as u8;
 
-const ACK_O: u8 = ACK_O_BIT as u8;
+const ACK_OPTIONS: u8 = ACK_O_BIT as u8;
 
-const OWNERS_P: u8 = OWNERS_INCLUDED_GIVEN as u8;
+const OWNERS_BIT: u8 = OWNERS_INCLUDED_GIVEN as u8;
 
-const RADIOS_P: u8 = ASSIGNMENT_GIVEN as u8;
+const ASSIGNMENT_BIT: u8 = ASSIGNMENT_GIVEN as u8;
 
 const YES_NO: Shape = Shape::Choice(1, 2);
 
@@ -50,31 +50,31 @@ const NUMBERS_SPAN: u8 = NUMBERS_PLACES as u8;
 const NAME_SPAN: u8 = NAME_PLACES as u8;
 
 // After O-bit 1, and where an option is given.
-const OPTION: When = When::Is(O, 1);
+const OPTION: When = When::Is(OPTIONS, 1);
 
-const SET_REFERENCE_IS: When = When::All(O, O, SET_REFERENCE_GIVEN as u8, 1);
+const SET_REFERENCE_IS: When = When::All(OPTIONS, OPTIONS, SET_REFERENCE_GIVEN as u8, 1);
 
-const OWNERS_INCLUDED_IS: When = When::All(O, O, OWNERS_P, 1);
+const OWNERS_INCLUDED_IS: When = When::All(OPTIONS, OPTIONS, OWNERS_BIT, 1);
 
-const OWNERS_ARE: When = When::All(O, OWNERS_P, OWNERS_INCLUDED as u8, IF_YES);
+const OWNERS_ARE: When = When::All(OPTIONS, OWNERS_BIT, OWNERS_INCLUDED as u8, IF_YES);
 
-const ACKNOWLEDGED_CALL_IS: When = When::All(O, O, ACKNOWLEDGED_CALL_GIVEN as u8, 1);
+const ACKNOWLEDGED_CALL_IS: When = When::All(OPTIONS, OPTIONS, ACKNOWLEDGED_CALL_GIVEN as u8, 1);
 
-const BROADCAST_IS: When = When::All(O, O, BROADCAST_GIVEN as u8, 1);
+const BROADCAST_IS: When = When::All(OPTIONS, OPTIONS, BROADCAST_GIVEN as u8, 1);
 
-const NAME_IS: When = When::All(O, O, NAME_GIVEN as u8, 1);
+const NAME_IS: When = When::All(OPTIONS, OPTIONS, NAME_GIVEN as u8, 1);
 
-const ASSIGNMENT_IS: When = When::All(O, O, RADIOS_P, 1);
+const ASSIGNMENT_IS: When = When::All(OPTIONS, OPTIONS, ASSIGNMENT_BIT, 1);
 
-const RADIOS_ARE: When = When::All(O, RADIOS_P, ASSIGNMENT as u8, IF_YES);
+const RADIOS_ARE: When = When::All(OPTIONS, ASSIGNMENT_BIT, ASSIGNMENT as u8, IF_YES);
 
-const ACKNOWLEDGEMENT_IS: When = When::All(O, O, ACKNOWLEDGEMENT_GIVEN as u8, 1);
+const ACKNOWLEDGEMENT_IS: When = When::All(OPTIONS, OPTIONS, ACKNOWLEDGEMENT_GIVEN as u8, 1);
 
-const CLASS_IS: When = When::All(O, O, CLASS_GIVEN as u8, 1);
+const CLASS_IS: When = When::All(OPTIONS, OPTIONS, CLASS_GIVEN as u8, 1);
 
-const LIFETIME_IS: When = When::All(O, O, LIFETIME_GIVEN as u8, 1);
+const LIFETIME_IS: When = When::All(OPTIONS, OPTIONS, LIFETIME_GIVEN as u8, 1);
 
-const TEMPORARY_IS: When = When::All(O, O, TEMPORARY_GIVEN as u8, 1);
+const TEMPORARY_IS: When = When::All(OPTIONS, OPTIONS, TEMPORARY_GIVEN as u8, 1);
 
 // Table 19.
 const DEFINE: [Element; LINES] = [
@@ -107,7 +107,7 @@ const DEFINE: [Element; LINES] = [
     Element(OPTION, BIT, 1),
     Element(TEMPORARY_IS, Shape::Number(3), 1),
     Element(OPTION, Shape::Ending, 1),
-    Element(OPTION, Shape::Nothing(O), 1),
+    Element(OPTION, Shape::Nothing(OPTIONS), 1),
 ];
 
 // Table 20.
@@ -117,8 +117,8 @@ const DEFINE_ACK: [Element; SHORT] = [
     Element(When::Always, NUMBERS, NUMBERS_SPAN),
     Element(When::Always, Shape::Number(4), 1),
     Element(When::Always, BIT, 1),
-    Element(When::Is(ACK_O, 1), Shape::Ending, 1),
-    Element(When::Is(ACK_O, 1), Shape::Nothing(ACK_O), 1),
+    Element(When::Is(ACK_OPTIONS, 1), Shape::Ending, 1),
+    Element(When::Is(ACK_OPTIONS, 1), Shape::Nothing(ACK_OPTIONS), 1),
     PAST,
 ];
 
