@@ -9,6 +9,10 @@ use elements::refused;
 use layout::Kind;
 use layout::Reading;
 use refusal::Refusal;
+use table::lines::ACTION_TYPE_BITS;
+use table::lines::HEAD_BITS;
+use table::lines::SS_TYPE;
+use table::lines::SS_TYPE_BITS;
 use table::lines::action_type;
 ghost use mathlib.Core.Path.{_≡_};
 ghost use mathlib.Core.List.{[]};
@@ -17,15 +21,6 @@ ghost use lib.ListN.{length};
 ghost use Rattle.layout.specs.Frame as spec;
 ghost use Rattle.layout.specs.Frame.{readingOf};
 ghost use Rattle.reading.specs.Reads.{whole, onward};
-
-// SS-Type of every frame, and the bits that it and the action type take.
-const SS_TYPE: u32 = 0b010100;
-
-const SS_TYPE_BITS: usize = 6;
-
-const ACTION_TYPE_BITS: usize = 4;
-
-const HEAD_BITS: usize = SS_TYPE_BITS + ACTION_TYPE_BITS;
 
 // Where reading goes on: at the next bit, or nowhere, with the bit at which the refused element begins.
 pub enum Step {

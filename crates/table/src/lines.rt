@@ -193,6 +193,15 @@ pub fn count_of(kind: Kind) -> usize
     }
 }
 
+// The head: SS-Type of every frame, and the bits that it and the action type take.
+pub const SS_TYPE: u32 = 0b010100;
+
+pub const SS_TYPE_BITS: usize = 6;
+
+pub const ACTION_TYPE_BITS: usize = 4;
+
+pub const HEAD_BITS: usize = SS_TYPE_BITS + ACTION_TYPE_BITS;
+
 // The action type of a kind.
 pub fn action_type(kind: Kind) -> u32
     ensures { λ r. ⌜ r ≡ actionType kind ⌝ }

@@ -1,5 +1,4 @@
 // Laying a table's elements, one after the other. An element that is not there costs one test.
-use crate::HEAD_BITS;
 use crate::Laying;
 use crate::Put;
 use crate::Walked;
@@ -13,6 +12,7 @@ use layout::Shape;
 use table::fields::M_BIT;
 use table::fields::choice;
 use table::fields::number;
+use table::lines::HEAD_BITS;
 use table::lines::count_of;
 use table::lines::table_of;
 use table::place::NO;

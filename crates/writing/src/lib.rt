@@ -9,6 +9,9 @@ use layout::Kind;
 use layout::PLACES;
 use layout::Written;
 use refusal::Refusal;
+use table::lines::ACTION_TYPE_BITS;
+use table::lines::SS_TYPE;
+use table::lines::SS_TYPE_BITS;
 use table::lines::action_type;
 ghost use mathlib.Core.Path.{_≡_};
 ghost use mathlib.Core.List.{_++_};
@@ -21,15 +24,6 @@ ghost use Rattle.layout.specs.Frame as spec;
 ghost use Rattle.layout.specs.Frame.{places};
 ghost use Rattle.writing.specs.Lay.{mostBits};
 ghost use Rattle.writing.specs.Whole.{Frames, Counts, judgedBy};
-
-// SS-Type of every frame, and the bits that it and the action type take.
-const SS_TYPE: u32 = 0b010100;
-
-const SS_TYPE_BITS: usize = 6;
-
-const ACTION_TYPE_BITS: usize = 4;
-
-const HEAD_BITS: usize = SS_TYPE_BITS + ACTION_TYPE_BITS;
 
 // What the writer's walk over a record finds: so many bits, a value without a code, or no group.
 pub enum Walked {
