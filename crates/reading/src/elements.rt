@@ -14,9 +14,9 @@ use refusal::Refusal;
 use table::fields::M_BIT;
 use table::fields::choice;
 use table::fields::number;
+use table::lines::IF_NO;
 use table::lines::count_of;
 use table::lines::table_of;
-use table::place::NO;
 use table::tests::holds;
 use table::tests::nothing_since;
 use table::tests::there;
@@ -31,8 +31,6 @@ ghost use Rattle.layout.specs.Read.{readRows};
 ghost use Rattle.layout.specs.Shape.{rowsOf, span, conditionsOf};
 ghost use Rattle.table.specs.Sound.{Clear, sound};
 ghost use Rattle.reading.specs.Reads.{whole, Reads, barredAt};
-
-const IF_NO: u8 = NO as u8;
 
 // The refusal of the element that begins one bit before, if there is a reason.
 fn barred(reason: bool, refusal: Refusal, at: usize) -> Step

@@ -20,7 +20,7 @@ const PAST: Element = Element(When::Always, Shape::Number(0), 0);
 
 const IF_YES: u8 = YES as u8;
 
-const IF_NO: u8 = NO as u8;
+pub const IF_NO: u8 = NO as u8;
 
 const CALL: u8 = CALL_RELATED as u8;
 

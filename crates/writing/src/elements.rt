@@ -13,9 +13,9 @@ use table::fields::M_BIT;
 use table::fields::choice;
 use table::fields::number;
 use table::lines::HEAD_BITS;
+use table::lines::IF_NO;
 use table::lines::count_of;
 use table::lines::table_of;
-use table::place::NO;
 use table::tests::holds;
 use table::tests::nothing_since;
 use table::tests::there;
@@ -27,8 +27,6 @@ ghost use Rattle.layout.specs.Frame.{places, laid};
 ghost use Rattle.layout.specs.Shape.{rowsOf, span, conditionsOf};
 ghost use Rattle.table.specs.Sound.{sound};
 ghost use Rattle.writing.specs.Lay.{Ready, Puts, toldOf, Walks};
-
-const IF_NO: u8 = NO as u8;
 
 fn told(put: Put) -> Laying
     ensures { λ r. ⌜ r ≡ toldOf put ⌝ }
