@@ -114,9 +114,8 @@ returns-2 : tie.Need-returns-2 Inv-loop μ-loop
 unfolding asReading
 returns-2 c =
     let l = c .before .before .before in
-    let more = bits-lent (l .before) in
-    c .refused2 .ensures
-    ∙ ap asReading (sym (going-over (held (l .before)) (l .loop .inv) (c .before .before .loop-test .left) (omega (arith, more, c .before .if1 .taken))))
+    let over = going-over (held (l .before)) (l .loop .inv) (c .before .before .loop-test .left) in
+    c .refused2 .ensures ∙ ap asReading (sym (over (omega (arith, bits-lent (l .before), c .before .if1 .taken))))
 
 returns-3 : tie.Need-returns-3 Inv-loop μ-loop
 returns-3 c =

@@ -23,11 +23,13 @@ abbrev μ-loop : tie.MeasureT-loop
 to-come : (c : tie.In-loop Inv-loop μ-loop) → c .before .loop .i < times (c .before .before .before .before .before .before .args .items)
 to-come c = omega (arith, c .loop-test .taken, c .before .before .before .times-of .ensures)
 
-room : (c : tie.In-loop Inv-loop μ-loop) → c .before .loop .place + stride (c .before .before .before .before .before .before .args .items) ≤ length (c .before .loop .values)
+room : (c : tie.In-loop Inv-loop μ-loop)
+    → c .before .loop .place + stride (c .before .before .before .before .before .before .args .items) ≤ length (c .before .loop .values)
 room c =
     let s = c .before .before .before .before .before .before in
+    let a = s .args in
     let l = c .before .loop in
-    listing-room _ (s .args .items) (s .args .from) (s .args .count) (s .args .values .now) (l .values) (l .at) (l .place) (l .i) _ (l .inv .0) (to-come c) (s .pre .1)
+    listing-room _ (a .items) (a .from) (a .count) (a .values .now) (l .values) (l .at) (l .place) (l .i) _ (l .inv .0) (to-come c) (s .pre .1)
 
 times-of-requires : tie.Need-times-of-requires Inv-loop μ-loop
 times-of-requires c κs = search needs
@@ -48,7 +50,7 @@ read-listed-requires : tie.Need-read-listed-requires Inv-loop μ-loop
 read-listed-requires c κs =
     let i = c .before in
     let l = i .before .loop in
-    (c .before .before .before .before .before .before .before .pre .0, omega (arith, l .inv .0 .place), room i, l .inv .0 .clear)
+    (i .before .before .before .before .before .before .pre .0, omega (arith, l .inv .0 .place), room i, l .inv .0 .clear)
 
 enum-known-next : tie.Need-enum-known-next Inv-loop μ-loop
 enum-known-next c = search needs
@@ -57,20 +59,22 @@ enum-known-n : tie.Need-enum-known-n Inv-loop μ-loop
 enum-known-n c = search needs
 
 same-length : tie.Need-same-length Inv-loop μ-loop
-same-length c = c .before .before .before .before .before .read-listed .ensures .size ∙ c .before .before .before .before .before .before .before .before .loop .inv .0 .size
+same-length c =
+    let f = c .before .before .before .before .before in
+    f .read-listed .ensures .size ∙ f .before .before .before .loop .inv .0 .size
 
 returns : tie.Need-returns Inv-loop μ-loop
 returns c =
     let i = c .before .before .before .before .before .before .before in
     let l = i .before .loop in
-    let a = c .before .before .before .before .before .before .before .before .before .before .before .before .before .args in
+    let a = i .before .before .before .before .before .before .args in
     listing-stop _ (a .items) (a .from) (a .count) (a .values .now) (l .values) _ (l .at) (l .place) (l .i) _ (l .inv .0)
     (c .before .before .before .before .before .read-listed .ensures) _ _ (c .before .n .given .1) tt (to-come i)
 
 add-place-2 : tie.Need-add-place-2 Inv-loop μ-loop
 add-place-2 c =
     let i = c .before .before .before .before .before .before .before in
-    omega (arith, room i, c .before .before .before .before .before .before .before .before .before .stride-of .ensures, i .before .loop .inv .0 .size)
+    omega (arith, room i, i .before .before .stride-of .ensures, i .before .loop .inv .0 .size)
 
 add-i : tie.Need-add-i Inv-loop μ-loop
 add-i c = omega arith
@@ -82,9 +86,9 @@ loop-again : tie.Need-loop-again Inv-loop μ-loop
 loop-again c =
     let i = c .before .before .before .before .before .before .before in
     let l = i .before .loop in
-    let a = c .before .before .before .before .before .before .before .before .before .before .before .before .before .args in (
+    let a = i .before .before .before .before .before .before .args in (
       listing-more _ (a .items) (a .from) (a .count) (a .values .now) (l .values) _ (l .at) (l .place) (l .i) _ (l .inv .0)
-          (c .before .before .before .before .before .read-listed .ensures) _ _ (c .before .next .given .1) (c .before .before .before .before .before .before .before .before .before .stride-of .ensures),
+          (c .before .before .before .before .before .read-listed .ensures) _ _ (c .before .next .given .1) (i .before .before .stride-of .ensures),
       omega (arith, i .loop-test .taken),
     )
 
