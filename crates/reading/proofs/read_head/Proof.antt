@@ -12,12 +12,14 @@ use Rattle.reading.proofs.read_head.Statement.{statement}
 use Rattle.reading.proofs.read_head.Tie as tie
 
 -- what the two fields hold
-first-seen : (c : tie.After-first-two) (t : Taken) → c .first-two .result .first ≡ t → Seen (c .before .before .args .frame .now) (c .before .before .args .bits) 0 6 t
+first-seen : (c : tie.After-first-two) (t : Taken) → c .first-two .result .first ≡ t
+    → Seen (c .before .before .args .frame .now) (c .before .before .args .bits) 0 6 t
 first-seen c t e =
     let s = c .before .before in
     seen (s .args .frame .now) (s .args .bits) 0 6 (s .pre) (omega arith) t (sym e ∙ ap (λ (x : Two). x .first) (c .first-two .ensures))
 
-second-seen : (c : tie.After-first-two) (t : Taken) → c .first-two .result .second ≡ t → Seen (c .before .before .args .frame .now) (c .before .before .args .bits) 6 4 t
+second-seen : (c : tie.After-first-two) (t : Taken) → c .first-two .result .second ≡ t
+    → Seen (c .before .before .args .frame .now) (c .before .before .args .bits) 6 4 t
 second-seen c t e =
     let s = c .before .before in
     seen (s .args .frame .now) (s .args .bits) 6 4 (s .pre) (omega arith) t (sym e ∙ ap (λ (x : Two). x .second) (c .first-two .ensures))

@@ -26,7 +26,8 @@ returns c =
     let s = i .before .before .before .before .before in
     let a = s .args in
     let on = present-when (a .element .0) (a .values .now) (a .place) (s .pre .2) ∙ sym (i .before .there .ensures) ∙ i .if1 .taken in
-    shape-under (reading (whole (a .frame .now) (a .bits))) (a .element .1) _ (a .at) (a .place) (a .values .now) _ _ on (c .before .before .read-shape .ensures)
+    shape-under (reading (whole (a .frame .now) (a .bits))) (a .element .1) _ (a .at) (a .place) (a .values .now) _ _ on
+    (c .before .before .read-shape .ensures)
 
 same-length-2 : tie.Need-same-length-2
 same-length-2 c = search needs

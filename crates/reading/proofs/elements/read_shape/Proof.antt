@@ -6,7 +6,8 @@ use native.Mathlib.Omega.{arith}
 use Rattle.layout.specs.Shape.{span}
 use Rattle.table.specs.Fields.{rowFor, Narrow}
 use Rattle.table.proofs.FieldLaws.{number-row, number-narrow, choice-narrow}
-use Rattle.table.proofs.ShapeLaws.{sound-number, sound-choice, sound-missing, list-room, span-some, shape-number, shape-choice, shape-ending, shape-identity, shape-list}
+use Rattle.table.proofs.ShapeLaws.{sound-number, sound-choice, sound-missing, list-room, span-some}
+use Rattle.table.proofs.ShapeLaws.{shape-number, shape-choice, shape-ending, shape-identity, shape-list}
 use Rattle.reading.specs.Reads.{whole}
 use Rattle.reading.proofs.ReadLaws.{reading}
 use Rattle.reading.proofs.RefusalLaws.{shape-missing, shape-nothing}
@@ -92,7 +93,8 @@ returns c =
     let is = c .before .before .before .before .before .before .shape .given .1 in
     let f = sound-number (a .shape) (a .place) _ is (s .pre .3) in
     let row = ap (λ x. rowFor x []) (n .number .ensures) ∙ number-row _ (f .0) (f .1) in
-    shape-number (reading (whole (a .frame .now) (a .bits))) (a .shape) (a .at) (a .place) (a .values .now) _ _ _ _ is row (c .before .before .read-field .ensures)
+    shape-number (reading (whole (a .frame .now) (a .bits))) (a .shape) (a .at) (a .place) (a .values .now) _ _ _ _ is row
+    (c .before .before .read-field .ensures)
 
 same-length-2 : tie.Need-same-length-2
 same-length-2 c = search needs
