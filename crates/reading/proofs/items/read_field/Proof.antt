@@ -3,7 +3,6 @@
 use mathlib.Core.Path.{sym, _∙_}
 use native.Mathlib.Omega.{arith}
 use borrow.Author.Needs.{needs}
-use Rattle.layout.specs.Read.{turn}
 use Rattle.reading.proofs.ReadLaws.{field-end, field-good, field-bad, field-short}
 use Rattle.reading.proofs.items.read_field.Statement.{statement}
 use Rattle.reading.proofs.items.read_field.Tie as tie
