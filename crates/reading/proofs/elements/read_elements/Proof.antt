@@ -24,7 +24,7 @@ abbrev μ-loop : tie.MeasureT-loop
 held : (c : tie.After-count-of Inv-loop μ-loop) → Held (c .before .before .before .args .kind) (c .before .table-of .result) (c .count-of .result)
 held c = table-held (c .before .before .before .args .kind) _ _ (c .before .table-of .ensures) (c .count-of .ensures)
 
--- as many bits as lent
+-- the frame is as long as its bit count says
 bits-lent : (c : tie.After-count-of Inv-loop μ-loop)
     → length (whole (c .before .before .before .args .frame .now) (c .before .before .before .args .bits)) ≡ c .before .before .before .args .bits
 bits-lent c = let s = c .before .before .before in whole-length (s .args .frame .now) (s .args .bits) (s .pre)
@@ -62,7 +62,7 @@ read-element-requires c κs =
     let i = c .before .before in
     let t = held (i .before .before) in
     let l = i .before .loop in (
-      c .before .before .before .before .before .before .before .pre,
+      i .before .before .before .before .before .pre,
       omega (arith, turn-room t (l .inv) (i .loop-test .taken), l .inv .size),
       l .inv .clear,
       turn-sound t (l .inv) (i .loop-test .taken),
