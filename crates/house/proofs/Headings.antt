@@ -58,7 +58,8 @@ module _ (bytes : List ℕ) (digits bits : ℕ) (count : bits ≡ bitCount bytes
   length-differs h = simp (ne-eqb _ _ (rw count at h))
 
 -- the heading goes by the first three bytes
-headed-same : (bytes others : List ℕ) (digits : ℕ) → getD bytes 0 0 ≡ getD others 0 0 → getD bytes 1 0 ≡ getD others 1 0 → getD bytes 2 0 ≡ getD others 2 0 → headed bytes digits ≡ headed others digits
+headed-same : (bytes others : List ℕ) (digits : ℕ)
+    → getD bytes 0 0 ≡ getD others 0 0 → getD bytes 1 0 ≡ getD others 1 0 → getD bytes 2 0 ≡ getD others 2 0 → headed bytes digits ≡ headed others digits
 headed-same bytes others digits p q r = rw (p, q, r)
 
 -- a heading's bits are those of the line's length
@@ -90,7 +91,9 @@ filled line before after (Frame kind bits) e l = (e, l)
 filled line before after Bad e l = tt
 
 -- a good line whose bytes are in the buffer has the heading that the buffer's front names
-module _ (line before after : List ℕ) (n : ℕ) (good : allDigits line ≡ true) (least : 6 ≤ length line) (most : length line ≤ 432) (even : length line ≡ 2 * n) (room : length before ≡ 216) (stored : after ≡ sets before 0 (bytesFrom line)) where
+module _ (line before after : List ℕ) (n : ℕ) (good : allDigits line ≡ true)
+    (least : 6 ≤ length line) (most : length line ≤ 432) (even : length line ≡ 2 * n)
+    (room : length before ≡ 216) (stored : after ≡ sets before 0 (bytesFrom line)) where
   same : (k : ℕ) → k < 3 → getD after k 0 ≡ getD (bytesFrom line) k 0
   same k h =
       let count = length-bytes line n even in
@@ -101,7 +104,8 @@ module _ (line before after : List ℕ) (n : ℕ) (good : allDigits line ≡ tru
   pub unpacked : (heading : Line) → heading ≡ headed after (length line) → Unpacked line before after heading
   unpacked heading e =
       record {
-        named = e ∙ headed-same after (bytesFrom line) (length line) (same 0 (lit< tt)) (same 1 (lit< tt)) (same 2 (lit< tt)) ∙ sym (all-good line good most);
+        named = e ∙ headed-same after (bytesFrom line) (length line) (same 0 (lit< tt)) (same 1 (lit< tt)) (same 2 (lit< tt))
+            ∙ sym (all-good line good most);
         holds = subst (Holds (length line)) (sym e) (headed-holds after (length line));
         filled = filled line before after heading stored most;
       }

@@ -21,6 +21,8 @@ module _ (space : ℕ) (line : List ℕ) where
     unfolding echoLine
     reply-bad known = rw (le-leb _ _ room, known)
 
-    pub reply-frame : (kind : Kind) (bits : ℕ) (bytes : List ℕ) (reading : Reading) → headingOf line ≡ Frame kind bits → bytes ≡ bytesFrom (splitOf line) → reading ≡ readingOf kind bytes bits → echoWithin space line ≡ answerTo kind reading
+    pub reply-frame : (kind : Kind) (bits : ℕ) (bytes : List ℕ) (reading : Reading)
+        → headingOf line ≡ Frame kind bits → bytes ≡ bytesFrom (splitOf line) → reading ≡ readingOf kind bytes bits
+        → echoWithin space line ≡ answerTo kind reading
     unfolding echoLine
     reply-frame kind bits bytes reading known same read = rw (le-leb _ _ room, known, read, same)

@@ -18,7 +18,8 @@ use Rattle.house.specs.Heading.{bitCount, named, headingOf}
 use Rattle.house.specs.Says.{lineSays, known, goodLine}
 
 -- by kinds: the one of that number, if it is among them
-named-says : (list : List Kind) (number bits : ℕ) → lineSays (named list number bits) ≡ cond (known list number) (accepted (number ∷ bits ∷ [])) (refusedWith BadLine)
+named-says : (list : List Kind) (number bits : ℕ)
+    → lineSays (named list number bits) ≡ cond (known list number) (accepted (number ∷ bits ∷ [])) (refusedWith BadLine)
 named-says [] number bits = refl
 named-says (kind ∷ list) number bits = go (eqb number (kindNumber kind)) refl (named-says list number bits)
   where
@@ -39,7 +40,8 @@ heading-says line = go (allDigits line) (leb (length line) 432) (eqb (length lin
     says : Bool → Says
     says b = cond b (accepted (getD bytes 0 0 ∷ bitCount bytes ∷ [])) (refusedWith BadLine)
 
-    go : (a b c : Bool) → lineSays (cond (a && b) (cond c (named kinds (getD bytes 0 0) (bitCount bytes)) Bad) Bad) ≡ says (a && b && c && known kinds (getD bytes 0 0))
+    go : (a b c : Bool) → lineSays (cond (a && b) (cond c (named kinds (getD bytes 0 0) (bitCount bytes)) Bad) Bad)
+        ≡ says (a && b && c && known kinds (getD bytes 0 0))
     go true true true = named-says kinds (getD bytes 0 0) (bitCount bytes)
     go true true false = refl
     go true false c = refl

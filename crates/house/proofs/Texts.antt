@@ -43,11 +43,14 @@ sent {text} {same} {before} {after} {count} e s = subst (λ t. Sent t before aft
 pub take-least : (bytes : List ℕ) (n : ℕ) → take (min n (length bytes)) bytes ≡ take n bytes
 take-least [] n = take-nil (min n 0) ∙ sym (take-nil n)
 take-least (byte ∷ bytes) zero = ap (λ n. take n (byte ∷ bytes)) (zero-min (length (byte ∷ bytes)))
-take-least (byte ∷ bytes) (suc n) = ap (λ n. take n (byte ∷ bytes)) (suc-min-suc n (length bytes)) ∙ ap (λ (rest : List ℕ). byte ∷ rest) (take-least bytes n)
+take-least (byte ∷ bytes) (suc n) =
+    ap (λ n. take n (byte ∷ bytes)) (suc-min-suc n (length bytes)) ∙ ap (λ (rest : List ℕ). byte ∷ rest) (take-least bytes n)
 
 -- the reply of a frame, put in three steps: A, the heading, the frame's bytes
-module _ (out out₁ out₂ bytes : List ℕ) (kind : Kind) (k bits most count : ℕ) (named : k ≡ kindNumber kind) (all : most ≡ bytesFor bits) (least : count ≡ min most 213) (room : length bytes ≡ 213)
-    (first : out₁ ≡ sets (set out 0 65) 1 (digitsOf (k ∷ (bits / 256 % 256) ∷ (bits % 256) ∷ []))) (then : out₂ ≡ sets out₁ 7 (digitsOf (take count bytes))) where
+module _ (out out₁ out₂ bytes : List ℕ) (kind : Kind) (k bits most count : ℕ)
+    (named : k ≡ kindNumber kind) (all : most ≡ bytesFor bits) (least : count ≡ min most 213) (room : length bytes ≡ 213)
+    (first : out₁ ≡ sets (set out 0 65) 1 (digitsOf (k ∷ (bits / 256 % 256) ∷ (bits % 256) ∷ [])))
+    (then : out₂ ≡ sets out₁ 7 (digitsOf (take count bytes))) where
   held : count ≡ min (bytesFor bits) (length bytes)
   held = rw (least, all, room)
 
@@ -57,4 +60,8 @@ module _ (out out₁ out₂ bytes : List ℕ) (kind : Kind) (k bits most count :
   pub accepted : Sent (taken kind bits (take (bytesFor bits) bytes)) out out₂ (7 + 2 * count)
   accepted =
       let long : length (take (bytesFor bits) bytes) ≡ count = length-take (bytesFor bits) bytes ∙ sym held in
-      record { counted = omega (arith, length-digits (take (bytesFor bits) bytes)); stored = rw (then, first, frame, named); short = omega (arith, min-le-right most 213) }
+      record {
+        counted = omega (arith, length-digits (take (bytesFor bits) bytes));
+        stored = rw (then, first, frame, named);
+        short = omega (arith, min-le-right most 213);
+      }

@@ -2,11 +2,11 @@
 -- Assumes nothing.
 use Prim.Native.Nat.{ℕ, zero, suc, _+_, _-_, _*_, _≤_, _<_}
 use mathlib.Core.Path.{_≡_, refl, ap, ap₂, sym, _∙_, subst}
-use mathlib.Core.Bool.{Bool, false, cond, not}
+use mathlib.Core.Bool.{Bool, true, false, cond, not}
 use mathlib.Core.List.{List, [], _∷_, _++_}
 use native.Mathlib.Omega.{arith}
 use borrow.Author.Tests.{lt-ltb, le-ltb, eq-eqb, ne-eqb}
-use lib.Dec.{eqb}
+use lib.Dec.{T, eqb, ltb}
 use lib.ListN.{length, take, drop, getD, replicate, length-drop, take-append-drop, drop-of-length-le}
 use lib.Seq.{drop-cons, getD-drop, length-take-le}
 use Rattle.refusal.specs.declared.Refusal.{Refusal}
@@ -14,6 +14,7 @@ use Rattle.refusal.specs.declared.Refusal.the-variants.{EndsInside, BitsRemain,
 use Rattle.bits.specs.Bits.{value}
 use Rattle.layout.specs.declared.Element.{Element}
 use Rattle.layout.specs.declared.Kind.{Kind}
+use Rattle.layout.specs.declared.Shape.{Shape}
 use Rattle.layout.specs.declared.Verdict.the-variants as verdict
 use Rattle.reading.specs.declared.Step.{Step}
 use Rattle.reading.specs.declared.Step.the-variants.{Next, Refused}
@@ -23,12 +24,12 @@ use Rattle.layout.specs.Shape.{rowsOf, span, conditionsOf, unrolled}
 use Rattle.layout.specs.Table.{tableOf, ssType, actionType}
 use Rattle.layout.specs.Frame.{places, rows, read, readBytes, asReading, readingOf}
 use Rattle.table.specs.Lines.{past}
-use Rattle.table.specs.Sound.{Clear}
+use Rattle.table.specs.Sound.{Clear, sound}
 use Rattle.reading.specs.Reads.{whole, onward, Reads}
 use Rattle.reading.proofs.ReadLaws.{reading, whole-length}
 use Rattle.table.proofs.Absent.{length-shape}
 use Rattle.table.proofs.Walks.{clear-after}
-use Rattle.table.proofs.TableLaws.{Placed, placed-none, placed-more, first}
+use Rattle.table.proofs.TableLaws.{Held, Placed, placed-none, placed-span, placed-sound, placed-room, placed-more, first}
 
 pub record Going (es : List Element) (bits : List Bool) (from : ℕ) (vs : List ℕ) (at p k : ℕ) : Type 0 where
   pub same : readRows (unrolled es 0) [] from (drop from bits) ≡ readRows (unrolled (drop k es) p) (take p vs) at (drop at bits)
@@ -50,75 +51,123 @@ going-none kind es bits from e =
     zeros (suc n) zero = refl
     zeros (suc n) (suc q) = zeros n q
 
-module _ (es : List Element) (bits : List Bool) (from : ℕ) (vs vs′ : List ℕ) (at p k : ℕ) (e : Element) (now : Going es bits from vs at p k) (inside : k < length es)
-    (is : getD es k past ≡ e) (s : Step) (f : Reads (rowsOf (e .1) (conditionsOf (e .0)) p) bits at p vs vs′ s) where
-  rest : List Row
-  rest = unrolled (drop (k + 1) es) (p + span (e .1))
+-- ---- a turn: the element k of the code's table, of which `count` are the kind's
+abbrev shapeAt : List Element → ℕ → Shape
+shapeAt table k = getD table k past .1
 
-  on : readRows (unrolled es 0) [] from (drop from bits) ≡ onward rest bits (take (p + length (rowsOf (e .1) (conditionsOf (e .0)) p)) vs′) s
-  unfolding unrolled rest
-  on = now .same ∙ ap (λ (l : List Element). readRows (unrolled l p) (take p vs) at (drop at bits)) (first es p k e (now .placed) inside is) ∙ f .same rest
+-- its rows under its condition
+abbrev rowsAt : List Element → ℕ → ℕ → List Row
+rowsAt table k p = rowsOf (shapeAt table k) (conditionsOf (getD table k past .0)) p
 
-  pub going-more : (at′ w : ℕ) → s ≡ Next at′ → w ≡ span (e .1) → Going es bits from vs′ at′ (p + w) (k + 1)
-  unfolding rest
-  going-more at′ w t d =
-      let n : length (rowsOf (e .1) (conditionsOf (e .0)) p) ≡ w = length-shape (e .1) (conditionsOf (e .0)) p ∙ sym d in
-      record {
-        same = on ∙ ap (onward rest bits _) t ∙ ap₂ (λ (m q : ℕ). readRows (unrolled (drop (k + 1) es) (p + m)) (take (p + q) vs′) at′ (drop at′ bits)) (sym d) n;
-        placed = subst (λ (m : ℕ). Placed es (p + m) (k + 1)) (sym d) (placed-more es p k e (now .placed) inside is);
-        clear = λ q h. clear-after (reading bits) (rowsOf (e .1) (conditionsOf (e .0)) p) at at′ p vs vs′ s t f (now .clear) q (omega arith);
-        size = f .size ∙ now .size;
-        passed = omega arith;
-      }
+module _ {kind : Kind} {table : List Element} {count : ℕ} (held : Held kind table count) {bits : List Bool} {from : ℕ} {vs : List ℕ} {at p k : ℕ}
+    (now : Going (take count table) bits from vs at p k) where
+  -- the rows of these elements are the kind's
+  kind-rows : readRows (rows kind) [] from (drop from bits) ≡ readRows (unrolled (take count table) 0) [] from (drop from bits)
+  unfolding rows
+  kind-rows = ap (λ (l : List Element). readRows (unrolled l 0) [] from (drop from bits)) (sym (held .same))
 
-  pub going-stop : (n : Refusal) (x : ℕ) → s ≡ Refused n x → readRows (unrolled es 0) [] from (drop from bits) ≡ refused n x
-  going-stop n x t = on ∙ ap (onward rest bits _) t
+  module _ (less : k < count) where
+    inside : k < length (take count table)
+    inside = omega (arith, held .size)
 
--- ---- the end
-module _ (es : List Element) (bits : List Bool) (from : ℕ) (vs : List ℕ) (at p k : ℕ) (now : Going es bits from vs at p k) (all : length es ≤ k) where
-  last : readRows (unrolled es 0) [] from (drop from bits) ≡ readRows [] (take p vs) at (drop at bits)
-  unfolding unrolled
-  last = now .same ∙ ap (λ (l : List Element). readRows (unrolled l p) (take p vs) at (drop at bits)) (drop-of-length-le es {i = k} all)
+    pub turn-room : p + span (shapeAt table k) ≤ places
+    turn-room = placed-room (take count table) p k (getD table k past) (now .placed) inside (held .at k less)
 
-  pub going-over : at < length bits → readRows (unrolled es 0) [] from (drop from bits) ≡ refused BitsRemain at
-  unfolding readRows
-  going-over h = last ∙ rw (drop-cons bits at false h)
+    pub turn-sound : T (sound (shapeAt table k) p)
+    turn-sound = placed-sound (take count table) p k (getD table k past) (now .placed) inside (held .at k less)
 
-  -- the values are the record so far and 0s
-  whole-record : take p vs ++ replicate (places - length (take p vs)) 0 ≡ vs
-  whole-record =
-      let low : p ≤ places = omega (arith, now .placed .room) in
-      let n : length (take p vs) ≡ p = length-take-le p vs (omega (arith, now .size)) in
-      let left : places - length (take p vs) ≡ length (drop p vs) = omega (arith, n, now .size, length-drop p vs) in
-      ap (λ (m : ℕ). take p vs ++ replicate m 0) left
-      ∙ ap (λ (l : List ℕ). take p vs ++ l) (sym (all-zero (drop p vs) (λ q. getD-drop p vs q 0 ∙ now .clear (p + q) (omega arith))))
-      ∙ take-append-drop p vs
+    -- the places that it takes
+    pub turn-span : getD table k past .2 ≡ span (shapeAt table k)
+    turn-span = placed-span (take count table) p k (getD table k past) (now .placed) inside (held .at k less)
 
-  pub going-end : length bits ≤ at → asReading (readRows (unrolled es 0) [] from (drop from bits)) ≡ record { verdict = verdict.Frame; values = record { place = vs } }
-  unfolding readRows asReading
-  going-end h =
-      let done : readRows [] (take p vs) at (drop at bits) ≡ frame (take p vs) = rw (drop-of-length-le bits {i = at} h) in
-      ap asReading (last ∙ done)
-      ∙ ap (λ (l : List ℕ). record { verdict = verdict.Frame; values = record { place = l } }) whole-record
+    -- by what its reading finds
+    module _ {vs′ : List ℕ} {s : Step} (f : Reads (rowsAt table k p) bits at p vs vs′ s) where
+      rest : List Row
+      rest = unrolled (drop (k + 1) (take count table)) (p + span (shapeAt table k))
+
+      on : readRows (unrolled (take count table) 0) [] from (drop from bits) ≡ onward rest bits (take (p + length (rowsAt table k p)) vs′) s
+      unfolding unrolled rest
+      on =
+          now .same
+          ∙ ap (λ (l : List Element). readRows (unrolled l p) (take p vs) at (drop at bits))
+          (first (take count table) p k (getD table k past) (now .placed) inside (held .at k less))
+          ∙ f .same rest
+
+      pub turn-next : {w at′ : ℕ} → w ≡ span (shapeAt table k) → s ≡ Next at′ → Going (take count table) bits from vs′ at′ (p + w) (k + 1)
+      unfolding rest
+      turn-next {w} {at′} d t =
+          let n : length (rowsAt table k p) ≡ w = length-shape (shapeAt table k) (conditionsOf (getD table k past .0)) p ∙ sym d in
+          let left : List Element = drop (k + 1) (take count table) in
+          record {
+            same = on ∙ ap (onward rest bits _) t
+                ∙ ap₂ (λ (m q : ℕ). readRows (unrolled left (p + m)) (take (p + q) vs′) at′ (drop at′ bits)) (sym d) n;
+            placed = subst (λ (m : ℕ). Placed (take count table) (p + m) (k + 1)) (sym d)
+                (placed-more (take count table) p k (getD table k past) (now .placed) inside (held .at k less));
+            clear = λ q h. clear-after (reading bits) (rowsAt table k p) at at′ p vs vs′ s t f (now .clear) q (omega arith);
+            size = f .size ∙ now .size;
+            passed = omega arith;
+          }
+
+      pub turn-stop : {n : Refusal} {x : ℕ} → s ≡ Refused n x → readRows (rows kind) [] from (drop from bits) ≡ refused n x
+      turn-stop t = kind-rows ∙ on ∙ ap (onward rest bits _) t
+
+  -- ---- after the last element
+  module _ (end : count ≤ k) where
+    last : readRows (rows kind) [] from (drop from bits) ≡ readRows [] (take p vs) at (drop at bits)
+    unfolding unrolled
+    last =
+        kind-rows ∙ now .same
+        ∙ ap (λ (l : List Element). readRows (unrolled l p) (take p vs) at (drop at bits))
+        (drop-of-length-le (take count table) {i = k} (omega (arith, held .size)))
+
+    pub going-over : at < length bits → readRows (rows kind) [] from (drop from bits) ≡ refused BitsRemain at
+    unfolding readRows
+    going-over h = last ∙ rw (drop-cons bits at false h)
+
+    -- the values are the record so far and 0s
+    whole-record : take p vs ++ replicate (places - length (take p vs)) 0 ≡ vs
+    whole-record =
+        let low : p ≤ places = omega (arith, now .placed .room) in
+        let n : length (take p vs) ≡ p = length-take-le p vs (omega (arith, now .size)) in
+        let left : places - length (take p vs) ≡ length (drop p vs) = omega (arith, n, now .size, length-drop p vs) in
+        let zeros = all-zero (drop p vs) (λ q. getD-drop p vs q 0 ∙ now .clear (p + q) (omega arith)) in
+        ap (λ (m : ℕ). take p vs ++ replicate m 0) left
+        ∙ ap (λ (l : List ℕ). take p vs ++ l) (sym zeros)
+        ∙ take-append-drop p vs
+
+    pub going-end : length bits ≤ at
+        → asReading (readRows (rows kind) [] from (drop from bits)) ≡ record { verdict = verdict.Frame; values = record { place = vs } }
+    unfolding readRows asReading
+    going-end h =
+        let done : readRows [] (take p vs) at (drop at bits) ≡ frame (take p vs) = rw (drop-of-length-le bits {i = at} h) in
+        ap asReading (last ∙ done)
+        ∙ ap (λ (l : List ℕ). record { verdict = verdict.Frame; values = record { place = l } }) whole-record
 
 -- ---- the head
 module _ (kind : Kind) (bytes : List ℕ) (count : ℕ) (lent : count ≤ 8 * length bytes) where
   size : length (whole bytes count) ≡ count
   size = whole-length bytes count lent
 
+  under : (n : ℕ) → count < n → ltb (length (whole bytes count)) n ≡ true
+  under n h = lt-ltb (length (whole bytes count)) n (omega (arith, size))
+
+  from : (n : ℕ) → n ≤ count → ltb (length (whole bytes count)) n ≡ false
+  from n h = le-ltb (length (whole bytes count)) n (omega (arith, size))
+
   pub head-cut : count < 6 → read kind (whole bytes count) ≡ refused EndsInside 0
   unfolding read
-  head-cut h = rw (lt-ltb (length (whole bytes count)) 6 (omega (arith, size)))
+  head-cut h = rw (under 6 h)
 
   pub head-short : 6 ≤ count → count < 10 → read kind (whole bytes count) ≡ refused EndsInside 6
   unfolding read
-  head-short l h = rw (le-ltb (length (whole bytes count)) 6 (omega (arith, size)), lt-ltb (length (whole bytes count)) 10 (omega (arith, size)))
+  head-short l h = rw (from 6 l, under 10 h)
 
   module _ (l : 10 ≤ count) (ss action : ℕ) (s : ss ≡ value (take 6 (whole bytes count))) (a : action ≡ value (take 4 (drop 6 (whole bytes count)))) where
     long : read kind (whole bytes count)
-        ≡ cond (not (eqb ss ssType)) (refused WrongKind 0) (cond (not (eqb action (actionType kind))) (refused WrongKind 6) (readRows (rows kind) [] 10 (drop 10 (whole bytes count))))
+        ≡ cond (not (eqb ss ssType)) (refused WrongKind 0)
+        (cond (not (eqb action (actionType kind))) (refused WrongKind 6) (readRows (rows kind) [] 10 (drop 10 (whole bytes count))))
     unfolding read
-    long = rw (le-ltb (length (whole bytes count)) 6 (omega (arith, size)), le-ltb (length (whole bytes count)) 10 (omega (arith, size)), ← s, ← a)
+    long = rw (from 6 (omega arith), from 10 l, ← s, ← a)
 
     pub head-type : (ss ≡ ssType → ⊥) → read kind (whole bytes count) ≡ refused WrongKind 0
     head-type h = long ∙ rw (ne-eqb ss ssType h)
@@ -134,7 +183,9 @@ pub reading-lent : (kind : Kind) (bytes : List ℕ) (count : ℕ) → 8 * length
 unfolding readingOf readBytes
 reading-lent kind bytes count h = rw (lt-ltb (8 * length bytes) count h)
 
-pub reading-on : (kind : Kind) (bytes : List ℕ) (count : ℕ) (s t : Step) → count ≤ 8 * length bytes → read kind (whole bytes count) ≡ onward (rows kind) (whole bytes count) [] s → s ≡ t
+pub reading-on : (kind : Kind) (bytes : List ℕ) (count : ℕ) (s t : Step)
+    → count ≤ 8 * length bytes → read kind (whole bytes count) ≡ onward (rows kind) (whole bytes count) [] s → s ≡ t
     → asReading (onward (rows kind) (whole bytes count) [] t) ≡ readingOf kind bytes count
 unfolding readingOf readBytes
-reading-on kind bytes count s t h e d = ap asReading (ap (onward (rows kind) (whole bytes count) []) (sym d) ∙ sym e) ∙ rw (le-ltb (8 * length bytes) count h)
+reading-on kind bytes count s t h e d =
+    ap asReading (ap (onward (rows kind) (whole bytes count) []) (sym d) ∙ sym e) ∙ rw (le-ltb (8 * length bytes) count h)

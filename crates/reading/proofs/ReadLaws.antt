@@ -45,7 +45,8 @@ module _ (r : Row) (bits : List Bool) (at p : ℕ) (vs : List ℕ) (inside : p <
       }
 
   -- a row that is there, and its value
-  pub row-took : present (take p vs) (r .hang) ≡ true → (v : ℕ) → turn r (drop at bits) ≡ took v → Reads (r ∷ []) bits at p vs (set vs p v) (Next (at + r .width))
+  pub row-took : present (take p vs) (r .hang) ≡ true → (v : ℕ) → turn r (drop at bits) ≡ took v
+      → Reads (r ∷ []) bits at p vs (set vs p v) (Next (at + r .width))
   unfolding readRows
   row-took e v t =
       record {
@@ -56,7 +57,8 @@ module _ (r : Row) (bits : List Bool) (at p : ℕ) (vs : List ℕ) (inside : p <
       }
 
   -- a row that is there, and is refused
-  pub row-stop : present (take p vs) (r .hang) ≡ true → (n : Refusal) (back : ℕ) → turn r (drop at bits) ≡ stop n back → Reads (r ∷ []) bits at p vs vs (Refused n (at - back))
+  pub row-stop : present (take p vs) (r .hang) ≡ true → (n : Refusal) (back : ℕ) → turn r (drop at bits) ≡ stop n back
+      → Reads (r ∷ []) bits at p vs vs (Refused n (at - back))
   unfolding readRows
   row-stop e n back t = record { same = λ rest. rw (e, t); before = refl; stays = refl; size = refl }
 
@@ -68,7 +70,8 @@ module _ (a b : List Row) (bits : List Bool) (at p : ℕ) (vs vs₁ : List ℕ) 
   still : drop (p + length a) vs₁ ≡ drop (p + length a) vs → drop (p + length a + length b) vs₁ ≡ drop (p + length a + length b) vs
   still e = sym (drop-drop (length b) (p + length a) vs₁) ∙ ap (drop (length b)) e ∙ drop-drop (length b) (p + length a) vs
 
-  pub reads-on : (at₁ : ℕ) (vs₂ : List ℕ) (s : Step) → Reads a bits at p vs vs₁ (Next at₁) → Reads b bits at₁ (p + length a) vs₁ vs₂ s → Reads (a ++ b) bits at p vs vs₂ s
+  pub reads-on : (at₁ : ℕ) (vs₂ : List ℕ) (s : Step) → Reads a bits at p vs vs₁ (Next at₁) → Reads b bits at₁ (p + length a) vs₁ vs₂ s
+      → Reads (a ++ b) bits at p vs vs₂ s
   reads-on at₁ vs₂ s f g =
       let take-of : take (p + length a) vs₂ ≡ take (p + length a) vs₁ → take p vs₂ ≡ take p vs₁ =
       λ e. sym (take-take p (p + length a) vs₂ (omega arith)) ∙ ap (take p) e ∙ take-take p (p + length a) vs₁ (omega arith) in
@@ -136,21 +139,25 @@ module _ (f : Field) (bytes : List ℕ) (count at p : ℕ) (vs : List ℕ) (lent
     field-good v e l =
         row-took (rowFor f []) (whole bytes count) at p vs inside refl (f .first + v) (met (Value v) e ∙ rw (lt-ltb v (f .codes) l))
 
-    stopped : (n : Refusal) → turn (rowFor f []) (drop at (whole bytes count)) ≡ stop n 0 → Reads (rowFor f [] ∷ []) (whole bytes count) at p vs vs (Refused n at)
+    stopped : (n : Refusal) → turn (rowFor f []) (drop at (whole bytes count)) ≡ stop n 0
+        → Reads (rowFor f [] ∷ []) (whole bytes count) at p vs vs (Refused n at)
     unfolding present
     stopped n t =
         subst (λ (x : ℕ). Reads (rowFor f [] ∷ []) (whole bytes count) at p vs vs (Refused n x)) (sub-zero at)
         (row-stop (rowFor f []) (whole bytes count) at p vs inside refl n 0 t)
 
-    pub field-bad : (v : ℕ) → Value v ≡ fieldAt bytes count at (f .width) → f .codes ≤ v → Reads (rowFor f [] ∷ []) (whole bytes count) at p vs vs (Refused (f .refusal) at)
+    pub field-bad : (v : ℕ) → Value v ≡ fieldAt bytes count at (f .width) → f .codes ≤ v
+        → Reads (rowFor f [] ∷ []) (whole bytes count) at p vs vs (Refused (f .refusal) at)
     field-bad v e l = stopped (f .refusal) (met (Value v) e ∙ rw (le-ltb v (f .codes) l))
 
     pub field-short : Cut ≡ fieldAt bytes count at (f .width) → Reads (rowFor f [] ∷ []) (whole bytes count) at p vs vs (Refused EndsInside at)
     field-short e = stopped EndsInside (met Cut e)
 
 -- a row is read under more conditions, which hold, as it is read without
-module _ (w first codes : ℕ) (n : Refusal) (back : ℕ) (own hang : List Condition) (more : List Row) (bits : List Bool) (at p : ℕ) (vs vs′ : List ℕ) (s : Step) where
-  pub reads-under : present (take p vs) hang ≡ true → Reads (row w first codes n back own ∷ more) bits at p vs vs′ s → Reads (row w first codes n back (own ++ hang) ∷ more) bits at p vs vs′ s
+module _ (w first codes : ℕ) (n : Refusal) (back : ℕ) (own hang : List Condition) (more : List Row)
+    (bits : List Bool) (at p : ℕ) (vs vs′ : List ℕ) (s : Step) where
+  pub reads-under : present (take p vs) hang ≡ true → Reads (row w first codes n back own ∷ more) bits at p vs vs′ s
+      → Reads (row w first codes n back (own ++ hang) ∷ more) bits at p vs vs′ s
   unfolding readRows present
   reads-under e f =
       let done = take p vs in
@@ -170,7 +177,8 @@ pub told : (s : Step) → ((at : ℕ) × (s ≡ Next at)) ⊎ Stop s
 told (Next at) = inl (at, refl)
 told (Refused n x) = inr tt
 
-pub reads-after : (a b : List Row) (bits : List Bool) (at p : ℕ) (vs vs₁ : List ℕ) (s : Step) → Stop s → Reads a bits at p vs vs₁ s → Reads (a ++ b) bits at p vs vs₁ s
+pub reads-after : (a b : List Row) (bits : List Bool) (at p : ℕ) (vs vs₁ : List ℕ) (s : Step)
+    → Stop s → Reads a bits at p vs vs₁ s → Reads (a ++ b) bits at p vs vs₁ s
 reads-after a b bits at p vs vs₁ (Refused n x) h f = reads-stop a b bits at p vs vs₁ n x f
 reads-after a b bits at p vs vs₁ (Next at₁) h f = absurd h
 

@@ -31,13 +31,15 @@ module _ (n : Refusal) (c : Condition) (bits : List Bool) (at p : ℕ) (vs : Lis
 
 -- the two refusals
 module _ (s : Shape) (bits : List Bool) (at p : ℕ) (vs : List ℕ) (room : p + span s ≤ length vs) (z : Clear vs p) where
-  barred : (n : Refusal) (c : Condition) (t : Bool) (r : Step) → rowsOf s [] p ≡ refuse n 1 (c ∷ []) ∷ [] → 1 ≡ span s → present (take p vs) (c ∷ []) ≡ t → r ≡ barredAt t n at
+  barred : (n : Refusal) (c : Condition) (t : Bool) (r : Step)
+      → rowsOf s [] p ≡ refuse n 1 (c ∷ []) ∷ [] → 1 ≡ span s → present (take p vs) (c ∷ []) ≡ t → r ≡ barredAt t n at
       → Reads (rowsOf s [] p) bits at p vs vs r
   barred n c t r e some on d =
       subst (λ (l : List Row). Reads l bits at p vs vs r) (sym e)
       (subst (λ (x : Step). Reads (refuse n 1 (c ∷ []) ∷ []) bits at p vs vs x) (sym d) (bar-reads n c bits at p vs (omega arith) z t on))
 
-  pub shape-missing : (q : ℕ) (t : Bool) (r : Step) → s ≡ Missing q → q < p → t ≡ eqb (getD vs q 0) No → r ≡ barredAt t NoGroup at → Reads (rowsOf s [] p) bits at p vs vs r
+  pub shape-missing : (q : ℕ) (t : Bool) (r : Step) → s ≡ Missing q → q < p → t ≡ eqb (getD vs q 0) No → r ≡ barredAt t NoGroup at
+      → Reads (rowsOf s [] p) bits at p vs vs r
   unfolding rowsOf span present
   shape-missing q t r e before h d =
       barred NoGroup (is q No) t r (ap (λ (x : Shape). rowsOf x [] p) e) (sym (ap span e))

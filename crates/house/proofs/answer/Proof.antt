@@ -26,18 +26,20 @@ same-length c = search needs
 
 returns : tie.Need-returns
 returns c =
-    let kind = c .before .before .before .before .before .before .before .before .before .args .kind in
-    let found = c .before .before .before .before .before .before .read .result in
-    sent (sym (ap (answerTo kind) (c .before .before .before .before .before .before .read .ensures)) ∙ ap (told kind (found .values .place)) (c .before .before .before .before .enum-told .given .1)) (c .before .before .remake .ensures)
+    let found = c .before .before .before .before .before .before in
+    let kind = found .before .before .before .args .kind in
+    let verdict = ap (told kind (found .read .result .values .place)) (c .before .before .before .before .enum-told .given .1) in
+    sent (sym (ap (answerTo kind) (found .read .ensures)) ∙ verdict) (c .before .before .remake .ensures)
 
 same-length-2 : tie.Need-same-length-2
 same-length-2 c = search needs
 
 returns-2 : tie.Need-returns-2
 returns-2 c =
-    let kind = c .before .before .before .before .before .before .before .before .before .before .args .kind in
-    let found = c .before .before .before .before .before .before .before .read .result in
-    sent (sym (ap (answerTo kind) (c .before .before .before .before .before .before .before .read .ensures)) ∙ ap (told kind (found .values .place)) (c .before .before .before .before .before .verdict .given .1)) (c .before .before .refuse .ensures)
+    let found = c .before .before .before .before .before .before .before in
+    let kind = found .before .before .before .args .kind in
+    let verdict = ap (told kind (found .read .result .values .place)) (c .before .before .before .before .before .verdict .given .1) in
+    sent (sym (ap (answerTo kind) (found .read .ensures)) ∙ verdict) (c .before .before .refuse .ensures)
 
 pub answer-spec : {M : Type 1} → statement M
 answer-spec =

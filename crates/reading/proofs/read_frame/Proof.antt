@@ -39,14 +39,18 @@ refused-requires-2 c κs = search needs
 
 returns-2 : tie.Need-returns-2
 returns-2 c =
-    let s = c .before .before .before .before .before .before .before in
-    c .read-elements .ensures ∙ reading-on (s .args .kind) (s .args .frame .now) (s .args .bits) _ _ (omega arith) (c .before .before .before .before .read-head .ensures) (c .before .before .at .given .1)
+    let h = c .before .before .before .before in
+    let s = h .before .before .before in
+    c .read-elements .ensures
+    ∙ reading-on (s .args .kind) (s .args .frame .now) (s .args .bits) _ _ (omega arith) (h .read-head .ensures) (c .before .before .at .given .1)
 
 returns-3 : tie.Need-returns-3
 unfolding asReading
 returns-3 c =
-    let s = c .before .before .before .before .before .before .before in
-    c .refused2 .ensures ∙ reading-on (s .args .kind) (s .args .frame .now) (s .args .bits) _ _ (omega arith) (c .before .before .before .before .read-head .ensures) (c .before .before .n .given .1)
+    let h = c .before .before .before .before in
+    let s = h .before .before .before in
+    c .refused2 .ensures
+    ∙ reading-on (s .args .kind) (s .args .frame .now) (s .args .bits) _ _ (omega arith) (h .read-head .ensures) (c .before .before .n .given .1)
 
 pub read-frame-spec : {M : Type 1} → statement M
 read-frame-spec =

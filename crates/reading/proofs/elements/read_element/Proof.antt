@@ -22,9 +22,12 @@ same-length c = search needs
 
 returns : tie.Need-returns
 returns c =
-    let s = c .before .before .before .before .before .before .before .before .before in
-    shape-under (reading (whole (s .args .frame .now) (s .args .bits))) (s .args .element .1) _ (s .args .at) (s .args .place) (s .args .values .now) _ _
-    (present-when (s .args .element .0) (s .args .values .now) (s .args .place) (s .pre .2) ∙ sym (c .before .before .before .before .before .there .ensures) ∙ c .before .before .before .before .if1 .taken) (c .before .before .read-shape .ensures)
+    let i = c .before .before .before .before in
+    let s = i .before .before .before .before .before in
+    let a = s .args in
+    let on = present-when (a .element .0) (a .values .now) (a .place) (s .pre .2) ∙ sym (i .before .there .ensures) ∙ i .if1 .taken in
+    shape-under (reading (whole (a .frame .now) (a .bits))) (a .element .1) _ (a .at) (a .place) (a .values .now) _ _ on
+    (c .before .before .read-shape .ensures)
 
 same-length-2 : tie.Need-same-length-2
 same-length-2 c = search needs
@@ -32,9 +35,11 @@ same-length-2 c = search needs
 returns-2 : tie.Need-returns-2
 returns-2 c =
     let s = c .before .before .before .before .before in
-    let e = s .args .element in
-    passes (reading (whole (s .args .frame .now) (s .args .bits))) (s .args .at) (s .args .place) (s .args .values .now) _ (shut-element (e .0) (e .1) (s .args .place) (s .args .values .now) (sym (c .before .there .ensures) ∙ c .if1 .left) (s .pre .2)) (s .pre .2)
-    (omega (arith, length-shape (e .1) (conditionsOf (e .0)) (s .args .place)))
+    let a = s .args in
+    let e = a .element in
+    let shut = shut-element (e .0) (e .1) (a .place) (a .values .now) (sym (c .before .there .ensures) ∙ c .if1 .left) (s .pre .2) in
+    passes (reading (whole (a .frame .now) (a .bits))) (a .at) (a .place) (a .values .now) _ shut (s .pre .2)
+    (omega (arith, length-shape (e .1) (conditionsOf (e .0)) (a .place)))
 
 pub read-element-spec : {M : Type 1} → statement M
 read-element-spec =

@@ -6,7 +6,8 @@ use native.Mathlib.Omega.{arith}
 use Rattle.layout.specs.Shape.{span}
 use Rattle.table.specs.Fields.{rowFor, Narrow}
 use Rattle.table.proofs.FieldLaws.{number-row, number-narrow, choice-narrow}
-use Rattle.table.proofs.ShapeLaws.{sound-number, sound-choice, sound-missing, list-room, span-some, shape-number, shape-choice, shape-ending, shape-identity, shape-list}
+use Rattle.table.proofs.ShapeLaws.{sound-number, sound-choice, sound-missing, list-room, span-some}
+use Rattle.table.proofs.ShapeLaws.{shape-number, shape-choice, shape-ending, shape-identity, shape-list}
 use Rattle.reading.specs.Reads.{whole}
 use Rattle.reading.proofs.ReadLaws.{reading}
 use Rattle.reading.proofs.RefusalLaws.{shape-missing, shape-nothing}
@@ -86,27 +87,32 @@ same-length c = search needs
 
 returns : tie.Need-returns
 returns c =
-    let s = c .before .before .before .before .before .before .before .before .before .before in
-    let f = sound-number (s .args .shape) (s .args .place) _ (c .before .before .before .before .before .before .shape .given .1) (s .pre .3) in
-    shape-number (reading (whole (s .args .frame .now) (s .args .bits))) (s .args .shape) (s .args .at) (s .args .place) (s .args .values .now) _ _ _ _
-    (c .before .before .before .before .before .before .shape .given .1) (ap (λ x. rowFor x []) (c .before .before .before .number .ensures) ∙ number-row _ (f .0) (f .1)) (c .before .before .read-field .ensures)
+    let n = c .before .before .before in
+    let s = n .before .before .before .before .before .before .before in
+    let a = s .args in
+    let is = c .before .before .before .before .before .before .shape .given .1 in
+    let f = sound-number (a .shape) (a .place) _ is (s .pre .3) in
+    let row = ap (λ x. rowFor x []) (n .number .ensures) ∙ number-row _ (f .0) (f .1) in
+    shape-number (reading (whole (a .frame .now) (a .bits))) (a .shape) (a .at) (a .place) (a .values .now) _ _ _ _ is row
+    (c .before .before .read-field .ensures)
 
 same-length-2 : tie.Need-same-length-2
 same-length-2 c = search needs
 
 returns-2 : tie.Need-returns-2
 returns-2 c =
-    let s = c .before .before .before .before .before .before .before .before .before .before in
-    shape-choice (reading (whole (s .args .frame .now) (s .args .bits))) (s .args .shape) (s .args .at) (s .args .place) (s .args .values .now) _ _ _ _ _
-    (c .before .before .before .before .before .before .shape2 .given .1) (ap (λ x. rowFor x []) (c .before .before .before .choice .ensures)) (c .before .before .read-field2 .ensures)
+    let a = c .before .before .before .before .before .before .before .before .before .before .args in
+    let row = ap (λ x. rowFor x []) (c .before .before .before .choice .ensures) in
+    shape-choice (reading (whole (a .frame .now) (a .bits))) (a .shape) (a .at) (a .place) (a .values .now) _ _ _ _ _
+    (c .before .before .before .before .before .before .shape2 .given .1) row (c .before .before .read-field2 .ensures)
 
 same-length-3 : tie.Need-same-length-3
 same-length-3 c = search needs
 
 returns-3 : tie.Need-returns-3
 returns-3 c =
-    let s = c .before .before .before .before .before .before .before .before in
-    shape-identity (reading (whole (s .args .frame .now) (s .args .bits))) (s .args .shape) (s .args .at) (s .args .place) (s .args .values .now) _ _
+    let a = c .before .before .before .before .before .before .before .before .args in
+    shape-identity (reading (whole (a .frame .now) (a .bits))) (a .shape) (a .at) (a .place) (a .values .now) _ _
     (c .before .before .before .before .enum-told .given .1) (c .before .before .read-identity .ensures)
 
 same-length-4 : tie.Need-same-length-4
@@ -114,8 +120,8 @@ same-length-4 c = search needs
 
 returns-4 : tie.Need-returns-4
 returns-4 c =
-    let s = c .before .before .before .before .before .before .before .before .before in
-    shape-list (reading (whole (s .args .frame .now) (s .args .bits))) (s .args .shape) (s .args .at) (s .args .place) (s .args .values .now) _ _ _
+    let a = c .before .before .before .before .before .before .before .before .before .args in
+    shape-list (reading (whole (a .frame .now) (a .bits))) (a .shape) (a .at) (a .place) (a .values .now) _ _ _
     (c .before .before .before .before .before .shape3 .given .1) (c .before .before .read-list .ensures)
 
 same-length-5 : tie.Need-same-length-5
@@ -123,8 +129,8 @@ same-length-5 c = search needs
 
 returns-5 : tie.Need-returns-5
 returns-5 c =
-    let s = c .before .before .before .before .before .before .before .before in
-    shape-ending (reading (whole (s .args .frame .now) (s .args .bits))) (s .args .shape) (s .args .at) (s .args .place) (s .args .values .now) _ _
+    let a = c .before .before .before .before .before .before .before .before .args in
+    shape-ending (reading (whole (a .frame .now) (a .bits))) (a .shape) (a .at) (a .place) (a .values .now) _ _
     (c .before .before .before .before .enum-told2 .given .1) (c .before .before .read-field3 .ensures)
 
 same-length-6 : tie.Need-same-length-6
@@ -133,8 +139,10 @@ same-length-6 c = search needs
 returns-6 : tie.Need-returns-6
 returns-6 c =
     let s = c .before .before .before .before .before .before .before .before in
-    shape-missing (s .args .shape) _ (s .args .at) (s .args .place) (s .args .values .now) (s .pre .1) (s .pre .2) _ _ _ (c .before .before .before .before .shape4 .given .1)
-    (sound-missing (s .args .shape) (s .args .place) _ (c .before .before .before .before .shape4 .given .1) (s .pre .3)) (c .before .holds .ensures) (c .barred .ensures)
+    let a = s .args in
+    let is = c .before .before .before .before .shape4 .given .1 in
+    shape-missing (a .shape) _ (a .at) (a .place) (a .values .now) (s .pre .1) (s .pre .2) _ _ _ is
+    (sound-missing (a .shape) (a .place) _ is (s .pre .3)) (c .before .holds .ensures) (c .barred .ensures)
 
 same-length-7 : tie.Need-same-length-7
 same-length-7 c = search needs
@@ -142,7 +150,8 @@ same-length-7 c = search needs
 returns-7 : tie.Need-returns-7
 returns-7 c =
     let s = c .before .before .before .before .before .before .before .before in
-    shape-nothing (s .args .shape) _ (s .args .at) (s .args .place) (s .args .values .now) (s .pre .1) (s .pre .2) _ _ _ (c .before .before .before .before .shape5 .given .1)
+    let a = s .args in
+    shape-nothing (a .shape) _ (a .at) (a .place) (a .values .now) (s .pre .1) (s .pre .2) _ _ _ (c .before .before .before .before .shape5 .given .1)
     (c .before .nothing-since .ensures) (c .barred2 .ensures)
 
 pub read-shape-spec : {M : Type 1} → statement M

@@ -25,12 +25,15 @@ same-length c = search needs
 returns : tie.Need-returns
 returns c =
     let s = c .before .before .before .before .before .before .before .before in
-    extension-on (reading (whole (s .args .frame .now) (s .args .bits))) (s .args .place) (s .args .values .now) (s .pre .1) (s .args .at) _ _ (c .before .before .before .before .if1 .taken) (c .before .before .read-field .ensures)
+    let a = s .args in
+    extension-on (reading (whole (a .frame .now) (a .bits))) (a .place) (a .values .now) (s .pre .1) (a .at) _ _
+    (c .before .before .before .before .if1 .taken) (c .before .before .read-field .ensures)
 
 returns-2 : tie.Need-returns-2
 returns-2 c =
     let s = c .before .before .before .before in
-    extension-off (reading (whole (s .args .frame .now) (s .args .bits))) (s .args .place) (s .args .values .now) (s .pre .1) (s .args .at) (c .if1 .left) (s .pre .2)
+    let a = s .args in
+    extension-off (reading (whole (a .frame .now) (a .bits))) (a .place) (a .values .now) (s .pre .1) (a .at) (c .if1 .left) (s .pre .2)
 
 pub read-extension-spec : {M : Type 1} → statement M
 read-extension-spec =

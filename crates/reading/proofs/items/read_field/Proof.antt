@@ -3,7 +3,6 @@
 use mathlib.Core.Path.{sym, _∙_}
 use native.Mathlib.Omega.{arith}
 use borrow.Author.Needs.{needs}
-use Rattle.layout.specs.Read.{turn}
 use Rattle.reading.proofs.ReadLaws.{field-end, field-good, field-bad, field-short}
 use Rattle.reading.proofs.items.read_field.Statement.{statement}
 use Rattle.reading.proofs.items.read_field.Tie as tie
@@ -26,7 +25,8 @@ slice-write-values c = search needs
 add-t15 : tie.Need-add-t15
 add-t15 c =
     let s = c .before .before .before .before .before .before .before .before .before in
-    let e = field-end (s .args .field) (s .args .frame .now) (s .args .bits) (s .args .at) (s .args .place) (s .args .values .now) (s .pre .0) (s .pre .2) _
+    let a = s .args in
+    let e = field-end (a .field) (a .frame .now) (a .bits) (a .at) (a .place) (a .values .now) (s .pre .0) (s .pre .2) _
     (sym (c .before .before .before .before .v .given .1) ∙ c .before .before .before .before .before .before .field-from .ensures) in
     omega arith
 
@@ -39,19 +39,22 @@ same-length c = search needs
 returns : tie.Need-returns
 returns c =
     let s = c .before .before .before .before .before .before .before .before .before in
-    field-good (s .args .field) (s .args .frame .now) (s .args .bits) (s .args .at) (s .args .place) (s .args .values .now) (s .pre .0) (s .pre .2) (s .pre .1) _
+    let a = s .args in
+    field-good (a .field) (a .frame .now) (a .bits) (a .at) (a .place) (a .values .now) (s .pre .0) (s .pre .2) (s .pre .1) _
     (sym (c .before .before .before .before .v .given .1) ∙ c .before .before .before .before .before .before .field-from .ensures) (c .before .if1 .taken)
 
 returns-2 : tie.Need-returns-2
 returns-2 c =
     let s = c .before .before .before .before .before .before .before .before in
-    field-bad (s .args .field) (s .args .frame .now) (s .args .bits) (s .args .at) (s .args .place) (s .args .values .now) (s .pre .0) (s .pre .2) (s .pre .1) _
+    let a = s .args in
+    field-bad (a .field) (a .frame .now) (a .bits) (a .at) (a .place) (a .values .now) (s .pre .0) (s .pre .2) (s .pre .1) _
     (sym (c .before .before .before .v .given .1) ∙ c .before .before .before .before .before .field-from .ensures) (c .if1 .left)
 
 returns-3 : tie.Need-returns-3
 returns-3 c =
     let s = c .before .before .before .before .before in
-    field-short (s .args .field) (s .args .frame .now) (s .args .bits) (s .args .at) (s .args .place) (s .args .values .now) (s .pre .0) (s .pre .2) (s .pre .1)
+    let a = s .args in
+    field-short (a .field) (a .frame .now) (a .bits) (a .at) (a .place) (a .values .now) (s .pre .0) (s .pre .2) (s .pre .1)
     (sym (c .enum-told .given .1) ∙ c .before .before .field-from .ensures)
 
 pub read-field-spec : {M : Type 1} → statement M

@@ -27,7 +27,9 @@ same-length c = search needs
 returns : tie.Need-returns
 returns c =
     let s = c .before .before .before .before .before .before .before .before in
-    form-sna (reading (whole (s .args .frame .now) (s .args .bits))) (s .args .place) (s .args .values .now) (s .pre .1) (s .args .at) _ _ (c .before .before .before .before .if1 .taken) (s .pre .2) (c .before .before .read-field .ensures)
+    let a = s .args in
+    form-sna (reading (whole (a .frame .now) (a .bits))) (a .place) (a .values .now) (s .pre .1) (a .at) _ _
+    (c .before .before .before .before .if1 .taken) (s .pre .2) (c .before .before .read-field .ensures)
 
 mul-if2 : tie.Need-mul-if2
 mul-if2 c = search needs
@@ -38,7 +40,8 @@ slice-read-if2 c = search needs
 returns-2 : tie.Need-returns-2
 returns-2 c =
     let s = c .before .before .before .before .before .before in
-    form-none (reading (whole (s .args .frame .now) (s .args .bits))) (s .args .place) (s .args .values .now) (s .pre .1) (s .args .at) (omega arith) (s .pre .2)
+    let a = s .args in
+    form-none (reading (whole (a .frame .now) (a .bits))) (a .place) (a .values .now) (s .pre .1) (a .at) (omega arith) (s .pre .2)
 
 add-read-field-2 : tie.Need-add-read-field-2
 add-read-field-2 c = search needs
@@ -52,8 +55,10 @@ enum-known-next c = search needs
 read-extension-requires : tie.Need-read-extension-requires
 read-extension-requires c κs =
     let s = c .before .before .before .before .before .before .before .before .before .before .before .before .before .before in
+    let walk = reading (whole (s .args .frame .now) (s .args .bits)) in
     let f = c .before .before .before .before .before .before .read-field2 .ensures in
-    (s .pre .0, omega (arith, f .size), λ q h. clear-after (reading (whole (s .args .frame .now) (s .args .bits))) _ _ _ _ _ _ _ (c .before .before .next .given .1) f (λ q h. s .pre .2 q (omega arith)) q (omega arith))
+    let clear = clear-after walk _ _ _ _ _ _ _ (c .before .before .next .given .1) f (λ q h. s .pre .2 q (omega arith)) in
+    (s .pre .0, omega (arith, f .size), λ q h. clear q (omega arith))
 
 enum-known-n : tie.Need-enum-known-n
 enum-known-n c = search needs
@@ -63,16 +68,22 @@ same-length-2 c = search needs
 
 returns-3 : tie.Need-returns-3
 returns-3 c =
-    let s = c .before .before .before .before .before .before .before .before .before .before .before .before .before .before .before .before .before in
-    form-ssi (reading (whole (s .args .frame .now) (s .args .bits))) (s .args .place) (s .args .values .now) (s .pre .1) (s .args .at) _ _ (c .before .before .before .before .before .before .before .before .before .before .before .if2 .left) (s .pre .2) (c .before .before .before .before .before .before .before .before .before .read-field2 .ensures) _ _ _ (c .before .before .before .before .before .next .given .1) (c .before .before .read-extension .ensures)
+    let f = c .before .before .before .before .before .before .before .before .before in
+    let s = f .before .before .before .before .before .before .before .before in
+    let a = s .args in
+    form-ssi (reading (whole (a .frame .now) (a .bits))) (a .place) (a .values .now) (s .pre .1) (a .at) _ _ (f .before .before .if2 .left) (s .pre .2)
+    (f .read-field2 .ensures) _ _ _ (c .before .before .before .before .before .next .given .1) (c .before .before .read-extension .ensures)
 
 same-length-3 : tie.Need-same-length-3
 same-length-3 c = search needs
 
 returns-4 : tie.Need-returns-4
 returns-4 c =
-    let s = c .before .before .before .before .before .before .before .before .before .before .before .before .before in
-    form-stop (reading (whole (s .args .frame .now) (s .args .bits))) (s .args .place) (s .args .values .now) (s .pre .1) (s .args .at) _ _ (c .before .before .before .before .before .before .before .if2 .left) (s .pre .2) (c .before .before .before .before .before .read-field2 .ensures) _ (c .before .n .given .1) tt
+    let f = c .before .before .before .before .before in
+    let s = f .before .before .before .before .before .before .before .before in
+    let a = s .args in
+    form-stop (reading (whole (a .frame .now) (a .bits))) (a .place) (a .values .now) (s .pre .1) (a .at) _ _ (f .before .before .if2 .left) (s .pre .2)
+    (f .read-field2 .ensures) _ (c .before .n .given .1) tt
 
 pub read-form-spec : {M : Type 1} → statement M
 read-form-spec =

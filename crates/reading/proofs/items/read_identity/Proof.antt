@@ -17,8 +17,9 @@ enum-known-next c = search needs
 read-form-requires : tie.Need-read-form-requires
 read-form-requires c κs =
     let s = c .before .before .before .before .before .before .before .before .before .before in
+    let walk = reading (whole (s .args .frame .now) (s .args .bits)) in
     let f = c .before .before .before .before .before .before .read-field .ensures in
-    (s .pre .0, omega (arith, f .size), λ q h. clear-after (reading (whole (s .args .frame .now) (s .args .bits))) _ _ _ _ _ _ _ (c .before .before .next .given .1) f (s .pre .2) q (omega arith))
+    (s .pre .0, omega (arith, f .size), clear-after walk _ _ _ _ _ _ _ (c .before .before .next .given .1) f (s .pre .2))
 
 enum-known-n : tie.Need-enum-known-n
 enum-known-n c = search needs
@@ -28,16 +29,19 @@ same-length c = search needs
 
 returns : tie.Need-returns
 returns c =
-    let s = c .before .before .before .before .before .before .before .before .before .before .before .before .before in
-    goes-then (reading (whole (s .args .frame .now) (s .args .bits))) _ _ _ _ _ _ _ _ _ _ (c .before .before .before .before .before .next .given .1) (c .before .before .before .before .before .before .before .before .before .read-field .ensures) (c .before .before .read-form .ensures)
+    let a = c .before .before .before .before .before .before .before .before .before .before .before .before .before .args in
+    let f = c .before .before .before .before .before .before .before .before .before .read-field .ensures in
+    goes-then (reading (whole (a .frame .now) (a .bits))) _ _ _ _ _ _ _ _ _ _
+    (c .before .before .before .before .before .next .given .1) f (c .before .before .read-form .ensures)
 
 same-length-2 : tie.Need-same-length-2
 same-length-2 c = search needs
 
 returns-2 : tie.Need-returns-2
 returns-2 c =
-    let s = c .before .before .before .before .before .before .before .before .before in
-    goes-stop (reading (whole (s .args .frame .now) (s .args .bits))) _ _ _ _ _ _ _ _ (c .before .n .given .1) tt (c .before .before .before .before .before .read-field .ensures)
+    let a = c .before .before .before .before .before .before .before .before .before .args in
+    let f = c .before .before .before .before .before .read-field .ensures in
+    goes-stop (reading (whole (a .frame .now) (a .bits))) _ _ _ _ _ _ _ _ (c .before .n .given .1) tt f
 
 pub read-identity-spec : {M : Type 1} → statement M
 read-identity-spec =

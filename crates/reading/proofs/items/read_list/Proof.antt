@@ -27,8 +27,9 @@ enum-known-next c = search needs
 read-items-requires : tie.Need-read-items-requires
 read-items-requires c κs =
     let s = c .before .before .before .before .before .before .before .before .before .before .before in
+    let walk = reading (whole (s .args .frame .now) (s .args .bits)) in
     let f = c .before .before .before .before .before .before .read-field .ensures in
-    (s .pre .0, omega (arith, f .size), λ q h. clear-after (reading (whole (s .args .frame .now) (s .args .bits))) _ _ _ _ _ _ _ (c .before .before .next .given .1) f (s .pre .2) q (omega arith))
+    (s .pre .0, omega (arith, f .size), clear-after walk _ _ _ _ _ _ _ (c .before .before .next .given .1) f (s .pre .2))
 
 enum-known-n : tie.Need-enum-known-n
 enum-known-n c = search needs
@@ -38,16 +39,22 @@ same-length c = search needs
 
 returns : tie.Need-returns
 returns c =
-    let s = c .before .before .before .before .before .before .before .before .before .before .before .before .before .before in
-    list-on (reading (whole (s .args .frame .now) (s .args .bits))) (s .args .items) (s .args .at) (s .args .place) (s .args .values .now) _ _ (ap (λ x. rowFor x []) (c .before .before .before .before .before .before .before .before .before .before .count-field .ensures)) _ (c .before .before .before .before .before .before .before .before .before .read-field .ensures) _ _ _ (c .before .before .before .before .before .next .given .1) (c .before .before .read-items .ensures)
+    let a = c .before .before .before .before .before .before .before .before .before .before .before .before .before .before .args in
+    let f = c .before .before .before .before .before .before .before .before .before in
+    let count = ap (λ x. rowFor x []) (f .before .count-field .ensures) in
+    list-on (reading (whole (a .frame .now) (a .bits))) (a .items) (a .at) (a .place) (a .values .now) _ _ count _
+    (f .read-field .ensures) _ _ _ (c .before .before .before .before .before .next .given .1) (c .before .before .read-items .ensures)
 
 same-length-2 : tie.Need-same-length-2
 same-length-2 c = search needs
 
 returns-2 : tie.Need-returns-2
 returns-2 c =
-    let s = c .before .before .before .before .before .before .before .before .before .before in
-    list-stop (reading (whole (s .args .frame .now) (s .args .bits))) (s .args .items) (s .args .at) (s .args .place) (s .args .values .now) _ _ (ap (λ x. rowFor x []) (c .before .before .before .before .before .before .count-field .ensures)) _ (c .before .before .before .before .before .read-field .ensures) _ (c .before .n .given .1) tt
+    let a = c .before .before .before .before .before .before .before .before .before .before .args in
+    let f = c .before .before .before .before .before in
+    let count = ap (λ x. rowFor x []) (f .before .count-field .ensures) in
+    list-stop (reading (whole (a .frame .now) (a .bits))) (a .items) (a .at) (a .place) (a .values .now) _ _ count _
+    (f .read-field .ensures) _ (c .before .n .given .1) tt
 
 pub read-list-spec : {M : Type 1} → statement M
 read-list-spec =

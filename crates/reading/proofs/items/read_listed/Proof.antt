@@ -26,12 +26,16 @@ same-length c = search needs
 returns : tie.Need-returns
 returns c =
     let s = c .before .before .before .before .before .before .before .before .before in
-    item-on (reading (whole (s .args .frame .now) (s .args .bits))) (s .args .items) (s .args .count) (s .args .place) _ (s .args .values .now) (s .pre .1) (s .args .at) _ _ (omega (arith, c .before .before .before .before .before .before .least-for .ensures)) (c .before .before .read-item .ensures)
+    let a = s .args in
+    item-on (reading (whole (a .frame .now) (a .bits))) (a .items) (a .count) (a .place) _ (a .values .now) (s .pre .1) (a .at) _ _
+    (omega (arith, c .before .before .before .before .before .before .least-for .ensures)) (c .before .before .read-item .ensures)
 
 returns-2 : tie.Need-returns-2
 returns-2 c =
     let s = c .before .before .before .before .before in
-    item-off (reading (whole (s .args .frame .now) (s .args .bits))) (s .args .items) (s .args .count) (s .args .place) _ (s .args .values .now) (s .pre .1) (s .args .at) (omega (arith, c .before .before .least-for .ensures)) (s .pre .3) (s .pre .2)
+    let a = s .args in
+    item-off (reading (whole (a .frame .now) (a .bits))) (a .items) (a .count) (a .place) _ (a .values .now) (s .pre .1) (a .at)
+    (omega (arith, c .before .before .least-for .ensures)) (s .pre .3) (s .pre .2)
 
 pub read-listed-spec : {M : Type 1} → statement M
 read-listed-spec =
