@@ -40,14 +40,16 @@ array-copy-out-element c = omega (arith, held (c .before .before) .few)
 cast-place : tie.Need-cast-place Inv-loop μ-loop
 cast-place c =
     let t = held (c .before .before .before .before) in
+    let now = c .before .before .before .loop .inv in
     let less = c .before .before .loop-test .taken in
-    omega (arith, turn-room t (c .before .before .before .loop .inv) less, turn-span t (c .before .before .before .loop .inv) less)
+    omega (arith, turn-room t now less, turn-span t now less)
 
 add-place : tie.Need-add-place Inv-loop μ-loop
 add-place c =
     let t = held (c .before .before .before .before) in
+    let now = c .before .before .before .loop .inv in
     let less = c .before .before .loop-test .taken in
-    omega (arith, turn-room t (c .before .before .before .loop .inv) less, turn-span t (c .before .before .before .loop .inv) less)
+    omega (arith, turn-room t now less, turn-span t now less)
 
 add-k : tie.Need-add-k Inv-loop μ-loop
 add-k c = omega (arith, held (c .before .before .before .before) .few, c .before .before .loop-test .taken)
