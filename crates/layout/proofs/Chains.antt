@@ -68,8 +68,8 @@ earlier-holds vs q (atLeast p v) t = absurd t
 earlier-holds vs q (nothingSince p) t = absurd t
 
 -- a row whose conditions are earlier ones of these is there
-covered : (vs : List ℕ) (before : List Condition) (q : ℕ) (hang : List Condition) → T (all (λ c. among before c && earlier q c) hang) → all (holds vs) before ≡ true
-    → all (holds (take q vs)) hang ≡ true
+covered : (vs : List ℕ) (before : List Condition) (q : ℕ) (hang : List Condition) → T (all (λ c. among before c && earlier q c) hang)
+    → all (holds vs) before ≡ true → all (holds (take q vs)) hang ≡ true
 covered vs before q [] t e = refl
 covered vs before q (c ∷ hang) t e =
     let one = left (among before c && earlier q c) (all (λ c. among before c && earlier q c) hang) t in
@@ -86,7 +86,9 @@ module _ (left-rows : List Row) (s : List ℕ) where
   carried : (before : List Condition) (q : ℕ) → q < length left-rows → idle (getD left-rows q nothing) ≡ false → T (under before q (getD left-rows q nothing))
       → all (holds cleaned) before ≡ true → getD cleaned q 0 ≡ getD s q 0
   unfolding present cleaned
-  carried before q inside carries t e = clean-at left-rows [] s q inside ∙ rw (covered (vals (lay left-rows [] s)) before q (getD left-rows q nothing .hang) t e, carries)
+  carried before q inside carries t e =
+      let on = covered (vals (lay left-rows [] s)) before q (getD left-rows q nothing .hang) t e in
+      clean-at left-rows [] s q inside ∙ rw (on, carries)
 
   -- one condition, and the rest of the chain
   module _ (before more : List Condition) (q v : ℕ) (t : T (chained left-rows before (is q v ∷ more))) (e : all (holds cleaned) before ≡ true) where
@@ -108,8 +110,9 @@ module _ (left-rows : List Row) (s : List ℕ) where
 
     value : getD cleaned q 0 ≡ getD s q 0
     value =
-        carried before q (ltb→lt q (length left-rows) (left (ltb q (length left-rows)) (not (idle row)) two))
-        (off (idle row) (right (ltb q (length left-rows)) (not (idle row)) two)) (right (ltb q (length left-rows) && not (idle row)) (under before q row) first) e
+        let inside = ltb→lt q (length left-rows) (left (ltb q (length left-rows)) (not (idle row)) two) in
+        let carries = off (idle row) (right (ltb q (length left-rows)) (not (idle row)) two) in
+        carried before q inside carries (right (ltb q (length left-rows) && not (idle row)) (under before q row) first) e
 
     step : (T (chained left-rows later more) → all (holds cleaned) later ≡ true → all (holds cleaned) more ≡ all (holds s) more)
         → all (holds cleaned) (is q v ∷ more) ≡ all (holds s) (is q v ∷ more)
@@ -121,7 +124,8 @@ module _ (left-rows : List Row) (s : List ℕ) where
             let on : all (holds cleaned) later ≡ true = all-append (holds cleaned) before (is q v ∷ []) ∙ rw (e, value, d) in
             rw (value, d) (rest (right (ltb q (length left-rows) && not (idle row) && under before q row) (chained left-rows later more) t) on)
 
-  agrees : (before hang : List Condition) → T (chained left-rows before hang) → all (holds cleaned) before ≡ true → all (holds cleaned) hang ≡ all (holds s) hang
+  agrees : (before hang : List Condition) → T (chained left-rows before hang) → all (holds cleaned) before ≡ true
+      → all (holds cleaned) hang ≡ all (holds s) hang
   agrees before [] t e = refl
   agrees before (atLeast q v ∷ more) t e = absurd t
   agrees before (nothingSince q ∷ more) t e = absurd t

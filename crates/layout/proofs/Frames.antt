@@ -27,7 +27,8 @@ use Rattle.layout.specs.Read.{Answer, frame, refused, readRows}
 use Rattle.layout.specs.Write.{held, lay, good, goodButGroup, vals, emit}
 use Rattle.layout.specs.Shape.{unrolled, rowsOf, repeated, span, spans}
 use Rattle.layout.specs.Table.{ssType, actionType, define, defineAck, cancel, cancelAck}
-use Rattle.layout.specs.Frame.{rows, head, places, filled, read, readBytes, asReading, readingOf, laid, clean, valid, write, judgedOf, writtenIf, writtenOf, outputOf}
+use Rattle.layout.specs.Frame.{rows, head, places, filled, read, readBytes, asReading, readingOf}
+use Rattle.layout.specs.Frame.{laid, clean, valid, write, judgedOf, writtenIf, writtenOf, outputOf}
 use Rattle.layout.proofs.RoundTrip.{read-emit, Sound, sound, lay-clean}
 
 -- ---- the tables: no row has more codes than its bits can hold

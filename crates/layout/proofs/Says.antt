@@ -58,7 +58,8 @@ write-says kind s size start = go (all good (laid kind s)) (all goodButGroup (la
     roomy true e = rw e
     roomy false e = rw e
 
-    go : (a b c : Bool) → writtenSays (writtenIf (judge a b) n size start) ≡ cond a (fits (room n size start)) (cond b (refusedWith NoGroup) (refusedWith Reserved))
+    go : (a b c : Bool) → writtenSays (writtenIf (judge a b) n size start)
+        ≡ cond a (fits (room n size start)) (cond b (refusedWith NoGroup) (refusedWith Reserved))
     go true b c = roomy (room n size start) refl
     go false true c = refl
     go false false c = refl

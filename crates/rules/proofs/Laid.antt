@@ -31,8 +31,11 @@ coded (r ∷ rows) done s g zero h p =
     let q : present done (r .hang) ≡ true = ap (λ (d : List ℕ). present d (r .hang)) (sym (append-nil done)) ∙ p in
     let e : there done r ≡ bare r = ap (λ (b : Bool). cond b (bare r) nothing) q in
     let i = and-l (good (record { row = there done r; val = v })) (all good (lay rows (done ++ (v ∷ [])) (tail s))) g in
-    let low = leb-true (there done r .first) v (and-l (leb (there done r .first) v) (ltb v (there done r .first + there done r .codes)) i) in
-    let high = ltb-true v (there done r .first + there done r .codes) (and-r (leb (there done r .first) v) (ltb v (there done r .first + there done r .codes)) i) in
+    let here = there done r in
+    let above = leb (here .first) v in
+    let below = ltb v (here .first + here .codes) in
+    let low = leb-true (here .first) v (and-l above below i) in
+    let high = ltb-true v (here .first + here .codes) (and-r above below i) in
     record {
       same = ap (λ (x : Row). held x (getD s 0 0)) e;
       least = subst (λ (x : Row). x .first ≤ v) e low;

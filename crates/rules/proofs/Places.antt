@@ -14,7 +14,9 @@ use Rattle.layout.specs.Shape.{number, choice, least, rowsOf, repeated, span, s
 use Rattle.layout.specs.Table.{define}
 use Rattle.layout.specs.Write.{idle}
 use Rattle.layout.specs.Frame.{rows, places}
-use Rattle.rules.specs.Recorded.{callRelated, acknowledgementRequested, groupGiven, groupNumbers, optionsFollow, setReference, ownersIncluded, ownerNumbers, acknowledgedCall, broadcast, letterCount, letters, assignment, radioNumbers, classOfUsage, attachmentLifetime, temporaryAssignment}
+use Rattle.rules.specs.Recorded.{callRelated, acknowledgementRequested, groupGiven, groupNumbers, optionsFollow, setReference, ownersIncluded}
+use Rattle.rules.specs.Recorded.{ownerNumbers, acknowledgedCall, broadcast, letterCount, letters, assignment, radioNumbers}
+use Rattle.rules.specs.Recorded.{classOfUsage, attachmentLifetime, temporaryAssignment}
 
 -- the places that an order is read from are those that the table itself names
 pub places-held : T (all (λ (p : ℕ × ℕ). eqb (p .0) (p .1)) (
@@ -134,7 +136,8 @@ pub record ListAt (t : ℕ) (hang : List Condition) : Type 0 where
   pub form : (j : ℕ) → j < 10 → rowAt (t + 1 + 4 * j) ≡ choice 2 3 (atLeast t (least Numbers j) ∷ [])
   pub ssi : (j : ℕ) → j < 10 → rowAt (t + 1 + 4 * j + 2) ≡ number 24 (atLeast (t + 1 + 4 * j) 2 ∷ [])
 
-list-at : (t : ℕ) (hang : List Condition) → rowAt t ≡ choice 4 11 hang → drop (t + 1) table ≡ repeated Numbers t (t + 1) 0 10 ++ drop (t + 41) table → ListAt t hang
+list-at : (t : ℕ) (hang : List Condition) → rowAt t ≡ choice 4 11 hang
+    → drop (t + 1) table ≡ repeated Numbers t (t + 1) 0 10 ++ drop (t + 41) table → ListAt t hang
 list-at t hang c d = record {
   count = c;
   form = λ j h. let e : 0 + j ≡ j = omega arith in

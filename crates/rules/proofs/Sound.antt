@@ -18,18 +18,25 @@ use Rattle.layout.specs.Frame.{places, judgedOf}
 use Rattle.rules.specs.Lists.{any}
 use Rattle.rules.specs.Number.{count, used, wide, badIdentity, badList}
 use Rattle.rules.specs.Parameters.{tooLarge, badName, badParameters}
-use Rattle.rules.specs.Recorded.{groupGiven, groupNumbers, optionsFollow, setReference, ownersIncluded, ownerNumbers, acknowledgedCall, broadcast, letterCount, letters, assignment, radioNumbers, classOfUsage, attachmentLifetime, temporaryAssignment, saysYes, codeAt, identityAt, identitiesAt, numbersAt, optional, optionalNumber, optionalChoice, optionalName, listed, optionalYes, parametersIn, defineOf}
+use Rattle.rules.specs.Recorded.{groupGiven, groupNumbers, optionsFollow, setReference, ownersIncluded, ownerNumbers, acknowledgedCall, broadcast}
+use Rattle.rules.specs.Recorded.{letterCount, letters, assignment, radioNumbers, classOfUsage, attachmentLifetime, temporaryAssignment}
+use Rattle.rules.specs.Recorded.{saysYes, codeAt, identityAt, identitiesAt, numbersAt, listed, parametersIn, defineOf}
+use Rattle.rules.specs.Recorded.{optional, optionalYes, optionalNumber, optionalChoice, optionalName}
 use Rattle.rules.specs.Refusals.{refuses, badValues}
 use Rattle.rules.proofs.Tests.{split, clash, and-in, and-l, and-r, or-in}
 use Rattle.rules.proofs.Recorded.{length-identities, identities-at}
 use Rattle.rules.proofs.Laid.{Coded, coded}
-use Rattle.rules.proofs.Places.{table, rowAt, all-rows, given, said, Optional, o-bit-at, set-reference-at, owners-included-at, acknowledged-call-at, broadcast-at, letter-count-at, assignment-at, class-of-usage-at, attachment-lifetime-at, temporary-assignment-at, ListAt, given-at, groups-at, owners-at, radios-at, letter-at}
+use Rattle.rules.proofs.Places.{table, rowAt, all-rows, given, said, Optional, ListAt, o-bit-at, given-at, groups-at, owners-at, radios-at, letter-at}
+use Rattle.rules.proofs.Places.{set-reference-at, owners-included-at, acknowledged-call-at, broadcast-at, letter-count-at}
+use Rattle.rules.proofs.Places.{assignment-at, class-of-usage-at, attachment-lifetime-at, temporary-assignment-at}
 
 -- a test of the first n, place by place
 any-take : {A : Type 0} (p : A → Bool) (d : A) (n : ℕ) (l : List A) → ((j : ℕ) → j < n → j < length l → p (getD l j d) ≡ false) → any p (take n l) ≡ false
 any-take p d zero l h = refl
 any-take p d (suc n) [] h = refl
-any-take p d (suc n) (x ∷ l) h = or-in (p x) (any p (take n l)) (h 0 (omega arith) (omega arith)) (any-take p d n l (λ j a b. h (suc j) (omega arith) (omega arith)))
+any-take p d (suc n) (x ∷ l) h =
+    or-in (p x) (any p (take n l)) (h 0 (omega arith) (omega arith))
+    (any-take p d n l (λ j a b. h (suc j) (omega arith) (omega arith)))
 
 -- item j of a list is there where the number type counts it
 counted : (v j : ℕ) → 1 ≤ v → j < count (v - 1) → least Numbers j ≤ v
@@ -74,9 +81,12 @@ module _ (s : List ℕ) (whole : length s ≡ places) (g : all good (lay table [
   unfolding present
   always k = refl
 
+  equal-at : (k j v : ℕ) → j < k → getD laid j 0 ≡ v → eqb (getD (take k laid) j 0) v ≡ true
+  equal-at k j v h e = eq-eqb (getD (take k laid) j 0) v (getD-take k laid j 0 h ∙ e)
+
   holds-is : (k j v : ℕ) → j < k → getD laid j 0 ≡ v → present (take k laid) (is j v ∷ []) ≡ true
   unfolding present
-  holds-is k j v h e = and-in (eq-eqb (getD (take k laid) j 0) v (getD-take k laid j 0 h ∙ e)) refl
+  holds-is k j v h e = and-in (equal-at k j v h e) refl
 
   holds-least : (k j v : ℕ) → j < k → v ≤ getD laid j 0 → present (take k laid) (atLeast j v ∷ []) ≡ true
   unfolding present
@@ -85,9 +95,7 @@ module _ (s : List ℕ) (whole : length s ≡ places) (g : all good (lay table [
   holds-chain : (k a b j v : ℕ) → a < k → b < k → j < k → getD laid a 0 ≡ 1 → getD laid b 0 ≡ 1 → getD laid j 0 ≡ v
       → present (take k laid) (is a 1 ∷ is b 1 ∷ is j v ∷ []) ≡ true
   unfolding present
-  holds-chain k a b j v f g h c d e =
-      let at : (x w : ℕ) → x < k → getD laid x 0 ≡ w → eqb (getD (take k laid) x 0) w ≡ true = λ x w l q. eq-eqb (getD (take k laid) x 0) w (getD-take k laid x 0 l ∙ q) in
-      and-in (at a 1 f c) (and-in (at b 1 g d) (and-in (at j v h e) refl))
+  holds-chain k a b j v f g h c d e = and-in (equal-at k a 1 f c) (and-in (equal-at k b 1 g d) (and-in (equal-at k j v h e) refl))
 
   -- ---- optional elements ----
 
@@ -98,7 +106,8 @@ module _ (s : List ℕ) (whole : length s ≡ places) (g : all good (lay table [
 
   flag : (k : ℕ) (r : Row) → Optional k r → optional s k ≡ true → getD laid k 0 ≡ 1
   flag k r o y =
-      valued k (number 1 (is optionsFollow 1 ∷ [])) (let w = o .within in omega arith) (o .flag) refl (holds-is k optionsFollow 1 (o .after) (options k y)) .same
+      let there = holds-is k optionsFollow 1 (o .after) (options k y) in
+      valued k (number 1 (is optionsFollow 1 ∷ [])) (let w = o .within in omega arith) (o .flag) refl there .same
       ∙ eqb-true (getD s k 0) 1 (and-r (saysYes s optionsFollow) (saysYes s k) y)
 
   optional-valued : (k : ℕ) (r : Row) → Optional k r → optional s k ≡ true → Valued r (getD s (k + 1) 0) (getD laid (k + 1) 0)
@@ -137,19 +146,23 @@ module _ (s : List ℕ) (whole : length s ≡ places) (g : all good (lay table [
       let i : j < 10 = rw (length-identities s (t + 1) 10) at k in
       ap badIdentity (identities-at s (t + 1) 10 j (identityAt s 0) i) ∙ item c j i (counted (getD s t 0) j (c .low) h)))
     where
-      item : Valued (choice 4 11 hang) (getD s t 0) (getD laid t 0) → (j : ℕ) → j < 10 → least Numbers j ≤ getD s t 0 → badIdentity (identityAt s (t + 1 + 4 * j)) ≡ false
+      item : Valued (choice 4 11 hang) (getD s t 0) (getD laid t 0) → (j : ℕ) → j < 10 → least Numbers j ≤ getD s t 0
+          → badIdentity (identityAt s (t + 1 + 4 * j)) ≡ false
       item c j i h =
           let q = t + 1 + 4 * j in
-          let f = valued q (choice 2 3 (atLeast t (least Numbers j) ∷ [])) (omega arith) (a .form j i) refl (holds-least q t (least Numbers j) (omega arith) (rw (c .same) h)) in
+          let there = holds-least q t (least Numbers j) (omega arith) (rw (c .same) h) in
+          let f = valued q (choice 2 3 (atLeast t (least Numbers j) ∷ [])) (omega arith) (a .form j i) refl there in
           identity-good q (let e = f .high in omega arith) (λ m.
-          let v = valued (q + 2) (number 24 (atLeast q 2 ∷ [])) (omega arith) (a .ssi j i) refl (holds-least (q + 2) q 2 (omega arith) (rw (f .same) m)) .high in
+          let more = holds-least (q + 2) q 2 (omega arith) (rw (f .same) m) in
+          let v = valued (q + 2) (number 24 (atLeast q 2 ∷ [])) (omega arith) (a .ssi j i) refl more .high in
           omega arith)
 
   -- ---- the name ----
 
   letter-small : (j : ℕ) → j < 16 → j < getD laid (letterCount + 1) 0 → getD s (letters + j) 0 < 256
   letter-small j h k =
-      let v = valued (letters + j) (number 8 (atLeast (letterCount + 1) (j + 1) ∷ [])) (omega arith) (letter-at j h) refl (holds-least (letters + j) (letterCount + 1) (j + 1) (omega arith) (omega arith)) .high in
+      let there = holds-least (letters + j) (letterCount + 1) (j + 1) (omega arith) (omega arith) in
+      let v = valued (letters + j) (number 8 (atLeast (letterCount + 1) (j + 1) ∷ [])) (omega arith) (letter-at j h) refl there .high in
       omega arith
 
   name-good : badName (optionalName s) ≡ false
@@ -176,7 +189,8 @@ module _ (s : List ℕ) (whole : length s ≡ places) (g : all good (lay table [
           (rw size (le-ltb 16 n (omega arith)))
           (any-take (λ x. leb 256 x) 0 n letterPlaces (λ j h k.
           let i : j < 16 = rw sixteen at k in
-          ap (leb 256) (getD-take 16 (drop letters s) j 0 i ∙ getD-drop letters s j 0) ∙ lt-leb 256 (getD s (letters + j) 0) (letter-small j i (rw (c .same) h)))))
+          let letter = getD-take 16 (drop letters s) j 0 i ∙ getD-drop letters s j 0 in
+          ap (leb 256) letter ∙ lt-leb 256 (getD s (letters + j) 0) (letter-small j i (rw (c .same) h)))))
 
   -- ---- the whole record ----
 
@@ -203,16 +217,23 @@ module _ (s : List ℕ) (whole : length s ≡ places) (g : all good (lay table [
       holds-chain t optionsFollow k (k + 1) 1 (omega arith) (omega arith) h (options k there) (flag k (choice 1 2 (given k)) o there)
       (optional-valued k (choice 1 2 (given k)) o there .same ∙ eqb-true (getD s (k + 1) 0) 1 (and-r (optional s k) (saysYes s (k + 1)) y))
 
+  included-good : (k t : ℕ) → Optional k (choice 1 2 (given k)) → k + 1 < t → t + 41 < places → ListAt t (said k)
+      → badList (listed s (optionalYes s k) t) ≡ false
+  included-good k t o h w a = listed-good (optionalYes s k) t (λ y. list-good t (said k) w a (included k t o h y))
+
+  groups-good : badList (listed s (saysYes s groupGiven) groupNumbers) ≡ false
+  groups-good = listed-good (saysYes s groupGiven) groupNumbers (λ y.
+      let yes = valued groupGiven (choice 1 2 []) (omega arith) given-at refl (always groupGiven) .same ∙ eqb-true (getD s groupGiven 0) 1 y in
+      list-good groupNumbers (is groupGiven 1 ∷ []) (omega arith) groups-at (holds-is groupNumbers groupGiven 1 (omega arith) yes))
+
   values-good : (asker : ℕ) → badValues (defineOf asker s) ≡ false
   unfolding defineOf
   values-good asker =
-      or-in (badList (listed s (saysYes s groupGiven) groupNumbers)) _
-      (listed-good (saysYes s groupGiven) groupNumbers (λ y. list-good groupNumbers (is groupGiven 1 ∷ []) (omega arith) groups-at
-      (holds-is groupNumbers groupGiven 1 (omega arith) (valued groupGiven (choice 1 2 []) (omega arith) given-at refl (always groupGiven) .same ∙ eqb-true (getD s groupGiven 0) 1 y))))
+      or-in (badList (listed s (saysYes s groupGiven) groupNumbers)) _ groups-good
       (or-in (badList (listed s (optionalYes s ownersIncluded) ownerNumbers)) _
-      (listed-good (optionalYes s ownersIncluded) ownerNumbers (λ y. list-good ownerNumbers (said ownersIncluded) (omega arith) owners-at (included ownersIncluded ownerNumbers owners-included-at (omega arith) y)))
+      (included-good ownersIncluded ownerNumbers owners-included-at (omega arith) (omega arith) owners-at)
       (or-in (badList (listed s (optionalYes s assignment) radioNumbers)) (badParameters (parametersIn s))
-      (listed-good (optionalYes s assignment) radioNumbers (λ y. list-good radioNumbers (said assignment) (omega arith) radios-at (included assignment radioNumbers assignment-at (omega arith) y)))
+      (included-good assignment radioNumbers assignment-at (omega arith) (omega arith) radios-at)
       parameters-good))
 
 -- what the frame half does not refuse, `badValues` does not either

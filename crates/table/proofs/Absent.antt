@@ -113,12 +113,14 @@ unfolding present
 none-more done c hang e = rw (e, and-false (holds done c))
 
 -- an element that is not there
-shut-shape : (vs : List ℕ) (p : ℕ) → Clear vs p → (s : Shape) (hang : List Condition) → ((n : ℕ) → p ≤ n → present (take n vs) hang ≡ false) → Shut vs p (rowsOf s hang p)
+shut-shape : (vs : List ℕ) (p : ℕ) → Clear vs p → (s : Shape) (hang : List Condition) → ((n : ℕ) → p ≤ n → present (take n vs) hang ≡ false)
+    → Shut vs p (rowsOf s hang p)
 unfolding rowsOf
 shut-shape vs p z (Number w) hang e = more (e p (omega arith)) none
 shut-shape vs p z (Choice w n) hang e = more (e p (omega arith)) none
 shut-shape vs p z Identity hang e = shut-identity vs p z hang (e p (omega arith))
-shut-shape vs p z (shape.List items) hang e = more (e p (omega arith)) (shut-repeated vs items p (p + 1) 0 (times items) (z p (omega arith)) (λ q l. z q (omega arith)))
+shut-shape vs p z (shape.List items) hang e =
+    more (e p (omega arith)) (shut-repeated vs items p (p + 1) 0 (times items) (z p (omega arith)) (λ q l. z q (omega arith)))
 shut-shape vs p z Ending hang e = more (e p (omega arith)) none
 shut-shape vs p z (Missing place) hang e = more (none-more (take p vs) (is place No) hang (e p (omega arith))) none
 shut-shape vs p z (Nothing o) hang e = more (none-more (take p vs) (nothingSince o) hang (e p (omega arith))) none

@@ -14,7 +14,7 @@ use Rattle.layout.specs.Row.{Row, is, atLeast, present}
 use Rattle.layout.specs.Shape.{number}
 use Rattle.table.specs.Sound.{Clear}
 use Rattle.table.proofs.Walks.{Walk, goes-then, clear-after, value-before}
-use Rattle.table.proofs.Absent.{none, more, passes}
+use Rattle.table.proofs.Absent.{Shut, none, more, passes}
 
 -- ---- a condition on the form, which stands before
 module _ (vs : List ℕ) (p n : ℕ) (h : p < n) where
@@ -44,17 +44,23 @@ ssi p = number 24 (atLeast p 2 ∷ [])
 abbrev extension : ℕ → Row
 extension p = number 24 (is p 3 ∷ [])
 
+-- a form below 2 has neither an SSI nor an extension
+no-ssi : (vs : List ℕ) (p : ℕ) → getD vs p 0 < 2 → Shut vs (p + 1 + 1) (ssi p ∷ extension p ∷ [])
+no-ssi vs p h =
+    more (form-below vs p (p + 1 + 1) (omega arith) 2 h) (more (form-not vs p (p + 1 + 1 + 1) (omega arith) 3 (λ d. omega arith)) none)
+
 module _ (W : Walk) (p : ℕ) (x : W .State) (room : p + 4 ≤ length (W .values x)) where
   -- form 3 has an extension, any other none
-  pub extension-on : (at : ℕ) (y : W .State) (r : W .Result) → getD (W .values x) p 0 ≡ 3 → W .Goes (number 24 [] ∷ []) at (p + 3) x y r → W .Goes (extension p ∷ []) at (p + 3) x y r
+  pub extension-on : (at : ℕ) (y : W .State) (r : W .Result) → getD (W .values x) p 0 ≡ 3 → W .Goes (number 24 [] ∷ []) at (p + 3) x y r
+      → W .Goes (extension p ∷ []) at (p + 3) x y r
   extension-on at y r e f = W .under 24 0 16777216 Reserved 0 [] (is p 3 ∷ []) [] at (p + 3) x y r (form-is (W .values x) p (p + 3) (omega arith) 3 e) f
 
   pub extension-off : (at : ℕ) → (getD (W .values x) p 0 ≡ 3 → ⊥) → Clear (W .values x) (p + 3) → W .Goes (extension p ∷ []) at (p + 3) x x (W .next at)
   extension-off at e z = passes W at (p + 3) x (extension p ∷ []) (more (form-not (W .values x) p (p + 3) (omega arith) 3 e) none) z (omega arith)
 
   -- form 1 is an SNA alone
-  pub form-sna : (at : ℕ) (y : W .State) (r : W .Result) → getD (W .values x) p 0 ≡ 1 → Clear (W .values x) (p + 1) → W .Goes (number 8 [] ∷ []) at (p + 1) x y r
-      → W .Goes (sna p ∷ ssi p ∷ extension p ∷ []) at (p + 1) x y r
+  pub form-sna : (at : ℕ) (y : W .State) (r : W .Result) → getD (W .values x) p 0 ≡ 1 → Clear (W .values x) (p + 1)
+      → W .Goes (number 8 [] ∷ []) at (p + 1) x y r → W .Goes (sna p ∷ ssi p ∷ extension p ∷ []) at (p + 1) x y r
   form-sna at y r e z f = ⊎-elim goes (λ h. W .stop (sna p ∷ []) (ssi p ∷ extension p ∷ []) at (p + 1) x y r h under) (W .told r)
     where
       under : W .Goes (sna p ∷ []) at (p + 1) x y r
@@ -67,8 +73,7 @@ module _ (W : Walk) (p : ℕ) (x : W .State) (room : p + 4 ≤ length (W .values
           let same : getD (W .values y) p 0 ≡ 1 = value-before W (sna p ∷ []) at at₁ (p + 1) x y r (t .1) under p (omega arith) ∙ e in
           subst (W .Goes (sna p ∷ ssi p ∷ extension p ∷ []) at (p + 1) x y) (sym (t .1))
           (W .join (sna p ∷ []) (ssi p ∷ extension p ∷ []) at at₁ (p + 1) x y y (W .next at₁) f₁
-          (passes W at₁ (p + 1 + 1) y (ssi p ∷ extension p ∷ [])
-          (more (form-below (W .values y) p (p + 1 + 1) (omega arith) 2 (omega arith)) (more (form-not (W .values y) p (p + 1 + 1 + 1) (omega arith) 3 (λ d. omega arith)) none))
+          (passes W at₁ (p + 1 + 1) y (ssi p ∷ extension p ∷ []) (no-ssi (W .values y) p (omega arith))
           (clear-after W (sna p ∷ []) at at₁ (p + 1) x y r (t .1) under z) (omega (arith, W .size (sna p ∷ []) at (p + 1) x y (W .next at₁) f₁))))
 
   -- no form, nothing
@@ -76,11 +81,12 @@ module _ (W : Walk) (p : ℕ) (x : W .State) (room : p + 4 ≤ length (W .values
   form-none at e z =
       passes W at (p + 1) x (sna p ∷ ssi p ∷ extension p ∷ [])
       (more (form-not (W .values x) p (p + 1) (omega arith) 1 (λ d. omega arith))
-      (more (form-below (W .values x) p (p + 1 + 1) (omega arith) 2 (omega arith)) (more (form-not (W .values x) p (p + 1 + 1 + 1) (omega arith) 3 (λ d. omega arith)) none)))
+      (no-ssi (W .values x) p (omega arith)))
       z (omega arith)
 
   -- a form from 2 on has an SSI, after a place for an SNA
-  module _ (at : ℕ) (y : W .State) (r₁ : W .Result) (e : 2 ≤ getD (W .values x) p 0) (z : Clear (W .values x) (p + 1)) (f : W .Goes (number 24 [] ∷ []) at (p + 2) x y r₁) where
+  module _ (at : ℕ) (y : W .State) (r₁ : W .Result) (e : 2 ≤ getD (W .values x) p 0) (z : Clear (W .values x) (p + 1))
+      (f : W .Goes (number 24 [] ∷ []) at (p + 2) x y r₁) where
     then-ssi : W .Goes (sna p ∷ ssi p ∷ []) at (p + 1) x y r₁
     then-ssi =
         let place : p + 2 ≡ p + 1 + 1 = omega arith in
@@ -97,4 +103,5 @@ module _ (W : Walk) (p : ℕ) (x : W .State) (room : p + 4 ≤ length (W .values
         → W .Goes (sna p ∷ ssi p ∷ extension p ∷ []) at (p + 1) x w r₂
     form-ssi at₁ w r₂ d g =
         let place : p + 3 ≡ p + 1 + 2 = omega arith in
-        goes-then W (sna p ∷ ssi p ∷ []) (extension p ∷ []) at at₁ (p + 1) x y w r₁ r₂ d then-ssi (subst (λ (n : ℕ). W .Goes (extension p ∷ []) at₁ n y w r₂) place g)
+        goes-then W (sna p ∷ ssi p ∷ []) (extension p ∷ []) at at₁ (p + 1) x y w r₁ r₂ d then-ssi
+        (subst (λ (n : ℕ). W .Goes (extension p ∷ []) at₁ n y w r₂) place g)

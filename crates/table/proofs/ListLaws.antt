@@ -11,7 +11,7 @@ use borrow.Author.Tests.{lt-leb, le-leb}
 use lib.ListN.{length, take, getD}
 use lib.Seq.{getD-take}
 use Rattle.refusal.specs.declared.Refusal.the-variants.{Reserved}
-use Rattle.layout.specs.Row.{Row, atLeast, present}
+use Rattle.layout.specs.Row.{Row, Condition, atLeast, present}
 use Rattle.layout.specs.Shape.{choice, codesOf, least, times, item, stride, repeated, rowsOf}
 use Rattle.table.specs.Sound.{Clear}
 use Rattle.layout.specs.declared.Items.{Items}
@@ -36,7 +36,8 @@ repeated-split items t p i (suc n) k =
     ∙ sym (append-assoc one (repeated items t (p + w) (i + 1) n) (repeated items t (p + w * suc n) (i + suc n) k))
 
 -- n items and one more
-repeated-more : (items : Items) (t p n : ℕ) → repeated items t p 0 (n + 1) ≡ repeated items t p 0 n ++ item items (atLeast t (least items n) ∷ []) (p + stride items * n)
+repeated-more : (items : Items) (t p n : ℕ)
+    → repeated items t p 0 (n + 1) ≡ repeated items t p 0 n ++ item items (atLeast t (least items n) ∷ []) (p + stride items * n)
 unfolding repeated
 repeated-more items t p n =
     repeated-split items t p 0 n 1
@@ -46,7 +47,8 @@ repeated-more items t p n =
 
 -- an item is there from a count on
 module _ (W : Walk) (items : Items) (t p v : ℕ) (x : W .State) (before : t < p) where
-  pub item-on : (at : ℕ) (y : W .State) (r : W .Result) → v ≤ getD (W .values x) t 0 → W .Goes (item items [] p) at p x y r → W .Goes (item items (atLeast t v ∷ []) p) at p x y r
+  pub item-on : (at : ℕ) (y : W .State) (r : W .Result) → v ≤ getD (W .values x) t 0 → W .Goes (item items [] p) at p x y r
+      → W .Goes (item items (atLeast t v ∷ []) p) at p x y r
   unfolding present
   item-on at y r h = go items
     where
@@ -61,7 +63,8 @@ module _ (W : Walk) (items : Items) (t p v : ℕ) (x : W .State) (before : t < p
       → W .Goes (item items (atLeast t v ∷ []) p) at p x x (W .next at)
   unfolding present
   item-off at h z room =
-      passes W at p x (item items (atLeast t v ∷ []) p) (shut-item (W .values x) p z items (atLeast t v ∷ []) off) z (omega (arith, length-item items (atLeast t v ∷ []) p))
+      let hang : List Condition = atLeast t v ∷ [] in
+      passes W at p x (item items hang p) (shut-item (W .values x) p z items hang off) z (omega (arith, length-item items hang p))
     where
       off : present (take p (W .values x)) (atLeast t v ∷ []) ≡ false
       off = rw (getD-take p (W .values x) t 0 before, lt-leb v (getD (W .values x) t 0) h)
@@ -79,7 +82,8 @@ module _ (W : Walk) (items : Items) (from t : ℕ) (x : W .State) where
   listing-none z = record { place = omega (arith, mul-zero (stride items)); goes = W .none from (t + 1) x; clear = z; size = refl }
 
   -- the places of an item that is still to come
-  pub listing-room : (y : W .State) (at p i m : ℕ) → Listing W items from t x y at p i → i < m → t + 1 + stride items * m ≤ length (W .values x) → p + stride items ≤ length (W .values y)
+  pub listing-room : (y : W .State) (at p i m : ℕ) → Listing W items from t x y at p i → i < m
+      → t + 1 + stride items * m ≤ length (W .values x) → p + stride items ≤ length (W .values y)
   listing-room y at p i m now h room =
       let step : stride items * i + stride items ≡ stride items * suc i = sym (mul-suc (stride items) i) in
       omega (arith, now .place, now .size, mul-le-mul-left (stride items) h)
@@ -117,7 +121,8 @@ module _ (W : Walk) (items : Items) (from t : ℕ) (x : W .State) where
         (W .stop first rest from (t + 1) x z r′ s (subst (W .Goes first from (t + 1) x z) e so-far))
 
 -- ---- the count, then the items
-module _ (W : Walk) (items : Items) (at p : ℕ) (x y : W .State) (c : Row) (e : c ≡ choice 4 (codesOf items) []) (r₁ : W .Result) (f : W .Goes (c ∷ []) at p x y r₁) where
+module _ (W : Walk) (items : Items) (at p : ℕ) (x y : W .State) (c : Row) (e : c ≡ choice 4 (codesOf items) [])
+    (r₁ : W .Result) (f : W .Goes (c ∷ []) at p x y r₁) where
   count : W .Goes (choice 4 (codesOf items) [] ∷ []) at p x y r₁
   count = subst (λ (q : Row). W .Goes (q ∷ []) at p x y r₁) e f
 
@@ -128,4 +133,6 @@ module _ (W : Walk) (items : Items) (at p : ℕ) (x y : W .State) (c : Row) (e :
 
   pub list-stop : (r : W .Result) → r₁ ≡ r → W .Stops r → W .Goes (rowsOf (shape.List items) [] p) at p x y r
   unfolding rowsOf
-  list-stop r d s = W .stop (choice 4 (codesOf items) [] ∷ []) (repeated items p (p + 1) 0 (times items)) at p x y r s (subst (W .Goes (choice 4 (codesOf items) [] ∷ []) at p x y) d count)
+  list-stop r d s =
+      let first : List Row = choice 4 (codesOf items) [] ∷ [] in
+      W .stop first (repeated items p (p + 1) 0 (times items)) at p x y r s (subst (W .Goes first at p x y) d count)

@@ -102,8 +102,11 @@ module _ (es : List Element) (p k : ℕ) (e : Element) (now : Placed es p k) (in
   later : Bool
   later = able (drop (k + 1) es) (p + span (e .1))
 
-  here : T (eqb (e .2) (span (e .1)) && sound (e .1) p && later)
-  unfolding able later
+  sized : Bool
+  sized = eqb (e .2) (span (e .1))
+
+  here : T (sized && sound (e .1) p && later)
+  unfolding able sized later
   here = subst (λ (l : List Element). T (able l p)) first (now .able)
 
   sizes : span (e .1) + spans (drop (k + 1) es) ≡ spans (drop k es)
@@ -111,14 +114,15 @@ module _ (es : List Element) (p k : ℕ) (e : Element) (now : Placed es p k) (in
   sizes = sym (ap spans first)
 
   pub placed-span : e .2 ≡ span (e .1)
-  placed-span = eqb-true (e .2) (span (e .1)) (told (eqb (e .2) (span (e .1))) (left (eqb (e .2) (span (e .1))) (sound (e .1) p) (left (eqb (e .2) (span (e .1)) && sound (e .1) p) later here)))
+  unfolding sized
+  placed-span = eqb-true (e .2) (span (e .1)) (told sized (left sized (sound (e .1) p) (left (sized && sound (e .1) p) later here)))
 
   pub placed-sound : T (sound (e .1) p)
-  placed-sound = right (eqb (e .2) (span (e .1))) (sound (e .1) p) (left (eqb (e .2) (span (e .1)) && sound (e .1) p) later here)
+  placed-sound = right sized (sound (e .1) p) (left (sized && sound (e .1) p) later here)
 
   pub placed-room : p + span (e .1) ≤ places
   placed-room = omega (arith, sizes, now .room)
 
   pub placed-more : Placed es (p + span (e .1)) (k + 1)
   unfolding later
-  placed-more = record { able = right (eqb (e .2) (span (e .1)) && sound (e .1) p) later here; room = omega (arith, sizes, now .room) }
+  placed-more = record { able = right (sized && sound (e .1) p) later here; room = omega (arith, sizes, now .room) }

@@ -21,7 +21,8 @@ module _ (w : When) (vs : List ℕ) (q v : ℕ) where
   unfolding present
   there-is t e d = d ∙ rw (e, and-true (eqb (getD vs q 0) v))
 
-  pub there-all : (a b : ℕ) (s t : Bool) → w ≡ All a b q v → eqb (getD vs q 0) v ≡ true → s ≡ eqb (getD vs b 0) 1 → t ≡ eqb (getD vs a 0) 1 → s && t ≡ present vs (conditionsOf w)
+  pub there-all : (a b : ℕ) (s t : Bool) → w ≡ All a b q v → eqb (getD vs q 0) v ≡ true → s ≡ eqb (getD vs b 0) 1 → t ≡ eqb (getD vs a 0) 1
+      → s && t ≡ present vs (conditionsOf w)
   unfolding present
   there-all a b s t e on d c = rw (e, on, d, c, and-true (eqb (getD vs b 0) 1)) (flip (eqb (getD vs b 0) 1) (eqb (getD vs a 0) 1))
     where

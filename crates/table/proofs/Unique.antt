@@ -1,7 +1,9 @@
 -- Any two results that a function's contract allows are equal. `Post` is a contract's claim as the checker reads it.
 -- Assumes nothing.
+use Prim.Native.Nat.{ℕ}
 use mathlib.Core.Path.{_≡_, sym, _∙_}
-use borrow.Fn.Kinds.{Dens, resT, endedOf}
+use mathlib.Core.List.{List}
+use borrow.Fn.Kinds.{PK, RK, Dens, resT, endedOf}
 use contract.Lifetimes.{Lfts}
 use denote.Triple.Clauses.{AtExit}
 use Rattle.table.proofs.fields.count_field.Kinds as count-field-kinds
@@ -37,66 +39,56 @@ use Rattle.table.proofs.tests.there.Reads as there
 use Rattle.table.proofs.tests.nothing_since.Kinds as nothing-since-kinds
 use Rattle.table.proofs.tests.nothing_since.Reads as nothing-since
 
-module _ (κs : Lfts 0) (a : Dens κs count-field-kinds.ps) (r r′ : resT count-field-kinds.r κs .Denot) (s s′ : AtExit (endedOf 0 count-field-kinds.ps count-field-kinds.r) κs) where
-  pub count-field-unique : count-field.Post κs a r s → count-field.Post κs a r′ s′ → r ≡ r′
-  count-field-unique p q = p ∙ sym q
+-- of any arguments, at any exits, what the claim allows is one result
+abbrev pub Unique : {n : ℕ} (ps : List (PK n)) (res : RK n)
+    → ((κs : Lfts n) → Dens κs ps → resT res κs .Denot → AtExit (endedOf n ps res) κs → Type 0) → Type 0
+Unique {n} ps res Post =
+    (κs : Lfts n) (a : Dens κs ps) (r r′ : resT res κs .Denot) (s s′ : AtExit (endedOf n ps res) κs) → Post κs a r s → Post κs a r′ s′ → r ≡ r′
 
-module _ (κs : Lfts 0) (a : Dens κs number-kinds.ps) (r r′ : resT number-kinds.r κs .Denot) (s s′ : AtExit (endedOf 0 number-kinds.ps number-kinds.r) κs) where
-  pub number-unique : number.Post κs a r s → number.Post κs a r′ s′ → r ≡ r′
-  number-unique p q = p ∙ sym q
+pub count-field-unique : Unique count-field-kinds.ps count-field-kinds.r count-field.Post
+count-field-unique κs a r r′ s s′ p q = p ∙ sym q
 
-module _ (κs : Lfts 0) (a : Dens κs choice-kinds.ps) (r r′ : resT choice-kinds.r κs .Denot) (s s′ : AtExit (endedOf 0 choice-kinds.ps choice-kinds.r) κs) where
-  pub choice-unique : choice.Post κs a r s → choice.Post κs a r′ s′ → r ≡ r′
-  choice-unique p q = p ∙ sym q
+pub number-unique : Unique number-kinds.ps number-kinds.r number.Post
+number-unique κs a r r′ s s′ p q = p ∙ sym q
 
-module _ (κs : Lfts 0) (a : Dens κs least-for-kinds.ps) (r r′ : resT least-for-kinds.r κs .Denot) (s s′ : AtExit (endedOf 0 least-for-kinds.ps least-for-kinds.r) κs) where
-  pub least-for-unique : least-for.Post κs a r s → least-for.Post κs a r′ s′ → r ≡ r′
-  least-for-unique p q = p ∙ sym q
+pub choice-unique : Unique choice-kinds.ps choice-kinds.r choice.Post
+choice-unique κs a r r′ s s′ p q = p ∙ sym q
 
-module _ (κs : Lfts 0) (a : Dens κs stride-of-kinds.ps) (r r′ : resT stride-of-kinds.r κs .Denot) (s s′ : AtExit (endedOf 0 stride-of-kinds.ps stride-of-kinds.r) κs) where
-  pub stride-of-unique : stride-of.Post κs a r s → stride-of.Post κs a r′ s′ → r ≡ r′
-  stride-of-unique p q = p ∙ sym q
+pub least-for-unique : Unique least-for-kinds.ps least-for-kinds.r least-for.Post
+least-for-unique κs a r r′ s s′ p q = p ∙ sym q
 
-module _ (κs : Lfts 0) (a : Dens κs times-of-kinds.ps) (r r′ : resT times-of-kinds.r κs .Denot) (s s′ : AtExit (endedOf 0 times-of-kinds.ps times-of-kinds.r) κs) where
-  pub times-of-unique : times-of.Post κs a r s → times-of.Post κs a r′ s′ → r ≡ r′
-  times-of-unique p q = p ∙ sym q
+pub stride-of-unique : Unique stride-of-kinds.ps stride-of-kinds.r stride-of.Post
+stride-of-unique κs a r r′ s s′ p q = p ∙ sym q
 
-module _ (κs : Lfts 0) (a : Dens κs table-of-kinds.ps) (r r′ : resT table-of-kinds.r κs .Denot) (s s′ : AtExit (endedOf 0 table-of-kinds.ps table-of-kinds.r) κs) where
-  pub table-of-unique : table-of.Post κs a r s → table-of.Post κs a r′ s′ → r ≡ r′
-  table-of-unique p q = p ∙ sym q
+pub times-of-unique : Unique times-of-kinds.ps times-of-kinds.r times-of.Post
+times-of-unique κs a r r′ s s′ p q = p ∙ sym q
 
-module _ (κs : Lfts 0) (a : Dens κs count-of-kinds.ps) (r r′ : resT count-of-kinds.r κs .Denot) (s s′ : AtExit (endedOf 0 count-of-kinds.ps count-of-kinds.r) κs) where
-  pub count-of-unique : count-of.Post κs a r s → count-of.Post κs a r′ s′ → r ≡ r′
-  count-of-unique p q = p ∙ sym q
+pub table-of-unique : Unique table-of-kinds.ps table-of-kinds.r table-of.Post
+table-of-unique κs a r r′ s s′ p q = p ∙ sym q
 
-module _ (κs : Lfts 0) (a : Dens κs action-type-kinds.ps) (r r′ : resT action-type-kinds.r κs .Denot) (s s′ : AtExit (endedOf 0 action-type-kinds.ps action-type-kinds.r) κs) where
-  pub action-type-unique : action-type.Post κs a r s → action-type.Post κs a r′ s′ → r ≡ r′
-  action-type-unique p q = p ∙ sym q
+pub count-of-unique : Unique count-of-kinds.ps count-of-kinds.r count-of.Post
+count-of-unique κs a r r′ s s′ p q = p ∙ sym q
 
-module _ (κs : Lfts 0) (a : Dens κs define-places-kinds.ps) (r r′ : resT define-places-kinds.r κs .Denot) (s s′ : AtExit (endedOf 0 define-places-kinds.ps define-places-kinds.r) κs) where
-  pub define-places-unique : define-places.Post κs a r s → define-places.Post κs a r′ s′ → r ≡ r′
-  define-places-unique p q = p ∙ sym q
+pub action-type-unique : Unique action-type-kinds.ps action-type-kinds.r action-type.Post
+action-type-unique κs a r r′ s s′ p q = p ∙ sym q
 
-module _ (κs : Lfts 0) (a : Dens κs define-ack-places-kinds.ps) (r r′ : resT define-ack-places-kinds.r κs .Denot) (s s′ : AtExit (endedOf 0 define-ack-places-kinds.ps define-ack-places-kinds.r) κs) where
-  pub define-ack-places-unique : define-ack-places.Post κs a r s → define-ack-places.Post κs a r′ s′ → r ≡ r′
-  define-ack-places-unique p q = p ∙ sym q
+pub define-places-unique : Unique define-places-kinds.ps define-places-kinds.r define-places.Post
+define-places-unique κs a r r′ s s′ p q = p ∙ sym q
 
-module _ (κs : Lfts 0) (a : Dens κs cancel-places-kinds.ps) (r r′ : resT cancel-places-kinds.r κs .Denot) (s s′ : AtExit (endedOf 0 cancel-places-kinds.ps cancel-places-kinds.r) κs) where
-  pub cancel-places-unique : cancel-places.Post κs a r s → cancel-places.Post κs a r′ s′ → r ≡ r′
-  cancel-places-unique p q = p ∙ sym q
+pub define-ack-places-unique : Unique define-ack-places-kinds.ps define-ack-places-kinds.r define-ack-places.Post
+define-ack-places-unique κs a r r′ s s′ p q = p ∙ sym q
 
-module _ (κs : Lfts 0) (a : Dens κs cancel-ack-places-kinds.ps) (r r′ : resT cancel-ack-places-kinds.r κs .Denot) (s s′ : AtExit (endedOf 0 cancel-ack-places-kinds.ps cancel-ack-places-kinds.r) κs) where
-  pub cancel-ack-places-unique : cancel-ack-places.Post κs a r s → cancel-ack-places.Post κs a r′ s′ → r ≡ r′
-  cancel-ack-places-unique p q = p ∙ sym q
+pub cancel-places-unique : Unique cancel-places-kinds.ps cancel-places-kinds.r cancel-places.Post
+cancel-places-unique κs a r r′ s s′ p q = p ∙ sym q
 
-module _ (κs : Lfts 1) (a : Dens κs holds-kinds.ps) (r r′ : resT holds-kinds.r κs .Denot) (s s′ : AtExit (endedOf 1 holds-kinds.ps holds-kinds.r) κs) where
-  pub holds-unique : holds.Post κs a r s → holds.Post κs a r′ s′ → r ≡ r′
-  holds-unique p q = p ∙ sym q
+pub cancel-ack-places-unique : Unique cancel-ack-places-kinds.ps cancel-ack-places-kinds.r cancel-ack-places.Post
+cancel-ack-places-unique κs a r r′ s s′ p q = p ∙ sym q
 
-module _ (κs : Lfts 1) (a : Dens κs there-kinds.ps) (r r′ : resT there-kinds.r κs .Denot) (s s′ : AtExit (endedOf 1 there-kinds.ps there-kinds.r) κs) where
-  pub there-unique : there.Post κs a r s → there.Post κs a r′ s′ → r ≡ r′
-  there-unique p q = p ∙ sym q
+pub holds-unique : Unique holds-kinds.ps holds-kinds.r holds.Post
+holds-unique κs a r r′ s s′ p q = p ∙ sym q
 
-module _ (κs : Lfts 1) (a : Dens κs nothing-since-kinds.ps) (r r′ : resT nothing-since-kinds.r κs .Denot) (s s′ : AtExit (endedOf 1 nothing-since-kinds.ps nothing-since-kinds.r) κs) where
-  pub nothing-since-unique : nothing-since.Post κs a r s → nothing-since.Post κs a r′ s′ → r ≡ r′
-  nothing-since-unique p q = p ∙ sym q
+pub there-unique : Unique there-kinds.ps there-kinds.r there.Post
+there-unique κs a r r′ s s′ p q = p ∙ sym q
+
+pub nothing-since-unique : Unique nothing-since-kinds.ps nothing-since-kinds.r nothing-since.Post
+nothing-since-unique κs a r r′ s s′ p q = p ∙ sym q

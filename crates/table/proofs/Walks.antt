@@ -27,14 +27,17 @@ pub record Walk : Type 1 where
   pub off : (r : Row) (at p : ℕ) (x : State) → p < length (values x) → present (take p (values x)) (r .hang) ≡ false → getD (values x) p 0 ≡ 0
       → Goes (r ∷ []) at p x x (next at)
   -- rows after rows, and rows after a stop
-  pub join : (a b : List Row) (at at₁ p : ℕ) (x y z : State) (r : Result) → Goes a at p x y (next at₁) → Goes b at₁ (p + length a) y z r → Goes (a ++ b) at p x z r
+  pub join : (a b : List Row) (at at₁ p : ℕ) (x y z : State) (r : Result) → Goes a at p x y (next at₁) → Goes b at₁ (p + length a) y z r
+      → Goes (a ++ b) at p x z r
   pub stop : (a b : List Row) (at p : ℕ) (x y : State) (r : Result) → Stops r → Goes a at p x y r → Goes (a ++ b) at p x y r
   -- a row is passed under more conditions, which hold, as it is passed without
   pub under : (w first codes : ℕ) (n : Refusal) (back : ℕ) (own hang : List Condition) (more : List Row) (at p : ℕ) (x y : State) (r : Result)
-      → present (take p (values x)) hang ≡ true → Goes (row w first codes n back own ∷ more) at p x y r → Goes (row w first codes n back (own ++ hang) ∷ more) at p x y r
+      → present (take p (values x)) hang ≡ true → Goes (row w first codes n back own ∷ more) at p x y r
+      → Goes (row w first codes n back (own ++ hang) ∷ more) at p x y r
   -- the values before and after the rows stay
   pub before : (rows : List Row) (at at₁ p : ℕ) (x y : State) → Goes rows at p x y (next at₁) → take p (values y) ≡ take p (values x)
-  pub stays : (rows : List Row) (at at₁ p : ℕ) (x y : State) → Goes rows at p x y (next at₁) → drop (p + length rows) (values y) ≡ drop (p + length rows) (values x)
+  pub stays : (rows : List Row) (at at₁ p : ℕ) (x y : State) → Goes rows at p x y (next at₁)
+      → drop (p + length rows) (values y) ≡ drop (p + length rows) (values x)
   pub size : (rows : List Row) (at p : ℕ) (x y : State) (r : Result) → Goes rows at p x y r → length (values y) ≡ length (values x)
 
 -- places that held 0 hold it still, where what is after n places stays
@@ -42,12 +45,14 @@ pub clear-later : (n p : ℕ) (vs vs′ : List ℕ) → drop (p + n) vs′ ≡ d
 clear-later n p vs vs′ e z q h =
     let m = p + n in
     let d : m + (q - m) ≡ q = omega arith in
-    ap (λ (k : ℕ). getD vs′ k 0) (sym d) ∙ sym (getD-drop m vs′ (q - m) 0) ∙ ap (λ (l : List ℕ). getD l (q - m) 0) e ∙ getD-drop m vs (q - m) 0 ∙ z (m + (q - m)) (omega arith)
+    ap (λ (k : ℕ). getD vs′ k 0) (sym d)
+    ∙ sym (getD-drop m vs′ (q - m) 0) ∙ ap (λ (l : List ℕ). getD l (q - m) 0) e ∙ getD-drop m vs (q - m) 0
+    ∙ z (m + (q - m)) (omega arith)
 
 module _ (W : Walk) where
   -- for a result that a match has told
-  pub goes-then : (a b : List Row) (at at₁ p : ℕ) (x y z : W .State) (r₁ r : W .Result) → r₁ ≡ W .next at₁ → W .Goes a at p x y r₁ → W .Goes b at₁ (p + length a) y z r
-      → W .Goes (a ++ b) at p x z r
+  pub goes-then : (a b : List Row) (at at₁ p : ℕ) (x y z : W .State) (r₁ r : W .Result) → r₁ ≡ W .next at₁ → W .Goes a at p x y r₁
+      → W .Goes b at₁ (p + length a) y z r → W .Goes (a ++ b) at p x z r
   goes-then a b at at₁ p x y z r₁ r e f g = W .join a b at at₁ p x y z r (subst (W .Goes a at p x y) e f) g
 
   pub goes-stop : (a b : List Row) (at p : ℕ) (x y : W .State) (r₁ r : W .Result) → r₁ ≡ r → W .Stops r → W .Goes a at p x y r₁ → W .Goes (a ++ b) at p x y r

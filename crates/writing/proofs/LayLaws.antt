@@ -58,7 +58,11 @@ lay-append (r ∷ a) b done s =
 
 -- ---- new bits over old
 pub over-none : (out : List ℕ) (at : ℕ) → Over out out at []
-over-none out at = record { size = refl; bits = λ h. sym (take-append-drop at (bitsOf out)) ∙ ap (λ (n : ℕ). take at (bitsOf out) ++ drop n (bitsOf out)) (sym (add-zero at)) }
+over-none out at =
+    record {
+      size = refl;
+      bits = λ h. sym (take-append-drop at (bitsOf out)) ∙ ap (λ (n : ℕ). take at (bitsOf out) ++ drop n (bitsOf out)) (sym (add-zero at));
+    }
 
 pub over-put : (out : List ℕ) (at w v : ℕ) → w ≤ 32 → Over out (putAt out at w v) at (digits w v)
 over-put out at w v h =
@@ -80,13 +84,14 @@ module _ (out out₁ out₂ : List ℕ) (at : ℕ) (a b : List Bool) (f : Over o
             let fits₁ : at + length a + length b ≤ 8 * length out₁ = omega (arith, f .size) in
             let x : List Bool = bitsOf out in
             let before : List Bool = take at x ++ a in
+            let rest : List Bool = drop (at + length a) x in
             let size : length before ≡ at + length a =
             length-append (take at x) a ∙ ap (λ (n : ℕ). n + length a) (length-take-le at x (omega (arith, length-bitsOf out))) in
-            let first : bitsOf out₁ ≡ before ++ drop (at + length a) x = f .bits fits ∙ sym (append-assoc (take at x) a (drop (at + length a) x)) in
-            let front : take (at + length a) (bitsOf out₁) ≡ before = ap (take (at + length a)) first ∙ take-at before (drop (at + length a) x) (at + length a) size in
+            let first : bitsOf out₁ ≡ before ++ rest = f .bits fits ∙ sym (append-assoc (take at x) a rest) in
+            let front : take (at + length a) (bitsOf out₁) ≡ before = ap (take (at + length a)) first ∙ take-at before rest (at + length a) size in
             let back : drop (at + length a + length b) (bitsOf out₁) ≡ drop (at + length (a ++ b)) x =
             sym (drop-drop (length b) (at + length a) (bitsOf out₁))
-            ∙ ap (drop (length b)) (ap (drop (at + length a)) first ∙ drop-at before (drop (at + length a) x) (at + length a) size)
+            ∙ ap (drop (length b)) (ap (drop (at + length a)) first ∙ drop-at before rest (at + length a) size)
             ∙ drop-drop (length b) (at + length a) x
             ∙ ap (λ (n : ℕ). drop n x) (add-assoc at (length a) (length b) ∙ ap (λ (n : ℕ). at + n) l) in
             g .bits fits₁
@@ -162,7 +167,8 @@ lays-stop a b s at p vs vs₁ out out₁ f =
     let second = lay b (take p vs ++ vals first) (drop (length a) (drop p s)) in
     record {
       ends = (
-        ap (all goodButGroup) (lay-append a b (take p vs) (drop p s)) ∙ all-append goodButGroup first second ∙ ap (λ (t : Bool). t && all goodButGroup second) (f .ends .0),
+        ap (all goodButGroup) (lay-append a b (take p vs) (drop p s)) ∙ all-append goodButGroup first second
+            ∙ ap (λ (t : Bool). t && all goodButGroup second) (f .ends .0),
         f .ends .1,
         f .ends .2,
       );
@@ -175,7 +181,12 @@ module _ (r : Row) (s : List ℕ) (at p : ℕ) (vs out : List ℕ) (inside : p <
   unfolding lay vals emit digits
   lay-off e z =
       let front : take (p + 1) vs ≡ take p vs ++ (0 ∷ []) = rw (add-one p, take-suc vs p 0 inside, z) in
-      record { ends = rw e (record { on = sym (add-zero at); few = omega arith; front = front; before = refl; stays = refl; size = refl; over = over-none out at }, refl) }
+      record {
+        ends = rw e (
+          record { on = sym (add-zero at); few = omega arith; front = front; before = refl; stays = refl; size = refl; over = over-none out at },
+          refl,
+        );
+      }
 
   -- a row that is there, with a value that has a code
   module _ (e : present (take p vs) (r .hang) ≡ true) (v : ℕ) (h : held r (getD s p 0) ≡ v) where
@@ -188,8 +199,9 @@ module _ (r : Row) (s : List ℕ) (at p : ℕ) (vs out : List ℕ) (inside : p <
     unfolding vals emit
     lay-good w g =
         let d = digits (r .width) (v - r .first) in
+        let out′ = putAt out at (r .width) (v - r .first) in
         record {
-          ends = subst (λ (l : List Laid). Ends l 1 at p vs (set vs p v) out (putAt out at (r .width) (v - r .first)) (Next (at + r .width))) (sym one) (
+          ends = subst (λ (l : List Laid). Ends l 1 at p vs (set vs p v) out out′ (Next (at + r .width))) (sym one) (
             record {
               on = ap (λ (n : ℕ). at + n) (sym (ap length (append-nil d) ∙ length-digits (r .width) (v - r .first)));
               few = omega arith;
@@ -197,7 +209,7 @@ module _ (r : Row) (s : List ℕ) (at p : ℕ) (vs out : List ℕ) (inside : p <
               before = take-set-le p vs p v (omega arith);
               stays = drop-set-lt (p + 1) vs p v (omega arith);
               size = length-set vs p v;
-              over = subst (λ (l : List Bool). Over out (putAt out at (r .width) (v - r .first)) at l) (sym (append-nil d)) (over-put out at (r .width) (v - r .first) w);
+              over = subst (λ (l : List Bool). Over out out′ at l) (sym (append-nil d)) (over-put out at (r .width) (v - r .first) w);
             },
             rw g,
           );

@@ -15,7 +15,8 @@ use Rattle.table.proofs.ListLaws.{Listing, listing-room}
 pub listing-ready : (s : List ℕ) (items : Items) (from t : ℕ) (vs₀ out₀ vs out : List ℕ) (at p i m : ℕ) → Ready s vs₀ from (t + 1) (stride items * m)
     → Listing (laying s) items from t (kept vs₀ out₀) (kept vs out) at p i → i < m → Ready s vs at p (stride items)
 listing-ready s items from t vs₀ out₀ vs out at p i m start now h =
-    let room : p + stride items ≤ length vs = listing-room (laying s) items from t (kept vs₀ out₀) (kept vs out) at p i m now h (omega (arith, start .size, start .room)) in
+    let fits : t + 1 + stride items * m ≤ length vs₀ = omega (arith, start .size, start .room) in
+    let room : p + stride items ≤ length vs = listing-room (laying s) items from t (kept vs₀ out₀) (kept vs out) at p i m now h fits in
     let few : at ≤ from + 32 * length (repeated items t (t + 1) 0 i) = now .goes .ends .0 .few in
     record {
       given = start .given;

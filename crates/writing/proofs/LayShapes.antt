@@ -124,6 +124,7 @@ module _ (w : When) (x : Shape) (s : List ℕ) (at p : ℕ) (vs vs′ out out′
   pub element-off : Clear vs p → present vs (conditionsOf w) ≡ false → p + span x ≤ length vs
       → Puts (rowsOf x (conditionsOf w) p) s at p vs vs out out (laying.Next at)
   element-off z e h =
+      let hang = conditionsOf w in
       record {
-        finds = passes (laws.laying s) at p (kept vs out) (rowsOf x (conditionsOf w) p) (shut-element w x p vs e z) z (omega (arith, length-shape x (conditionsOf w) p)) .ends;
+        finds = passes (laws.laying s) at p (kept vs out) (rowsOf x hang p) (shut-element w x p vs e z) z (omega (arith, length-shape x hang p)) .ends;
       }

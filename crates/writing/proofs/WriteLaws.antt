@@ -78,9 +78,15 @@ module _ (kind : Kind) (s : List ℕ) where
               (subst (λ (m : ℕ). Over out₂ out₃ m (emit (laid kind s))) (sym (ap (λ (m : ℕ). 0 + m) head-length)) (f .outcome .3));
         }
     framed walked.Reserved f =
-        record { counts = record { judges = judged-as false false (not-good (f .outcome .0)) (f .outcome .0); count = tt }; bits = f .outcome .1 ∙ headed .size }
+        record {
+          counts = record { judges = judged-as false false (not-good (f .outcome .0)) (f .outcome .0); count = tt };
+          bits = f .outcome .1 ∙ headed .size;
+        }
     framed walked.NoGroup f =
-        record { counts = record { judges = judged-as false true (f .outcome .0) (f .outcome .1); count = tt }; bits = f .outcome .2 ∙ headed .size }
+        record {
+          counts = record { judges = judged-as false true (f .outcome .0) (f .outcome .1); count = tt };
+          bits = f .outcome .2 ∙ headed .size;
+        }
 
 -- ---- the spare bits
 pub spare-width : (n : ℕ) → (8 - n % 8) % 8 ≡ 8 * bytesFor n - n
@@ -111,24 +117,27 @@ module _ (bits : List Bool) (out out₁ out₂ : List ℕ) (n : ℕ) (over : Ove
 
   filled : bytesOf (bits ++ replicate (8 * bytesFor n - n) false) ≡ bytesOf bits
   filled =
-      ap (λ (k : ℕ). bytesOf (bits ++ replicate (8 * bytesFor k - k) false)) size ∙ ap bytesOf (sym (bits-bytes bits)) ∙ bytes-bits (bytesOf bits) (bytesOf-below bits)
+      ap (λ (k : ℕ). bytesOf (bits ++ replicate (8 * bytesFor k - k) false)) size
+      ∙ ap bytesOf (sym (bits-bytes bits)) ∙ bytes-bits (bytesOf bits) (bytesOf-below bits)
 
   pub laid-bytes : out₂ ≡ bytesOf bits ++ drop (bytesFor n) out
   laid-bytes =
       let w = 8 * bytesFor n - n in
       let few : w ≤ 32 = omega arith in
       let inside : n + w ≤ 8 * length out₁ = omega (arith, over .size) in
-      let whole : length (bits ++ replicate w false) ≡ 8 * bytesFor n = length-append bits (replicate w false) ∙ omega (arith, size, length-replicate w false) in
+      let spare : List Bool = replicate w false in
+      let whole : length (bits ++ spare) ≡ 8 * bytesFor n = length-append bits spare ∙ omega (arith, size, length-replicate w false) in
+      let front : take n (bitsOf out₁) ≡ bits = ap (take n) first ∙ take-at bits (drop n (bitsOf out)) n (sym size) in
       last ∙ put-inside out₁ n w 0 inside few
-      ∙ ap bytesOf
-      (ap₂ (λ (a b : List Bool). a ++ b) (ap₂ (λ (a b : List Bool). a ++ b) (ap (take n) first ∙ take-at bits (drop n (bitsOf out)) n (sym size)) (digits-zero w)) after)
-      ∙ bytesOf-append (bytesFor n) (bits ++ replicate w false) (bitsOf (drop (bytesFor n) out)) whole
+      ∙ ap bytesOf (ap₂ (λ (a b : List Bool). a ++ b) (ap₂ (λ (a b : List Bool). a ++ b) front (digits-zero w)) after)
+      ∙ bytesOf-append (bytesFor n) (bits ++ spare) (bitsOf (drop (bytesFor n) out)) whole
       ∙ ap₂ (λ (a b : List ℕ). a ++ b) filled
       (bytes-bits (drop (bytesFor n) out) (λ i. subst (λ (k : ℕ). k < 256) (sym (getD-drop (bytesFor n) out i 0)) (bounded (bytesFor n + i))))
 
 -- ---- what is answered, and what the whole buffer then holds
 module _ (kind : Kind) (s out : List ℕ) (start n : ℕ) (v : judgedOf kind s ≡ judged.Writable) (size : n ≡ length (write kind s)) where
-  answered : writtenOf kind s (length out) start ≡ cond (leb start (length out) && leb (bytesFor n) (length out - start)) (written.Bits n) (written.Refused NoSpace)
+  answered : writtenOf kind s (length out) start
+      ≡ cond (leb start (length out) && leb (bytesFor n) (length out - start)) (written.Bits n) (written.Refused NoSpace)
   unfolding writtenOf
   answered = rw (v, ← size)
 
@@ -137,6 +146,9 @@ module _ (kind : Kind) (s out : List ℕ) (start n : ℕ) (v : judgedOf kind s �
 
   no-room : start ≤ length out → length out - start < bytesFor n → written.Refused NoSpace ≡ writtenOf kind s (length out) start
   no-room l h = sym (answered ∙ rw (le-leb start (length out) l, lt-leb (bytesFor n) (length out - start) h))
+
+  roomy : start ≤ length out → bytesFor n ≤ length out - start → writtenOf kind s (length out) start ≡ written.Bits n
+  roomy l h = answered ∙ rw (le-leb start (length out) l, le-leb (bytesFor n) (length out - start) h)
 
   kept-out : written.Refused NoSpace ≡ writtenOf kind s (length out) start → out ≡ outputOf kind s out start
   unfolding outputOf
@@ -154,13 +166,14 @@ module _ (kind : Kind) (s out : List ℕ) (start n : ℕ) (v : judgedOf kind s �
       → (written.Bits n ≡ writtenOf kind s (length out) start) × (putMid start k out ys ≡ outputOf kind s out start)
   unfolding outputOf
   written-part l h k ys j e =
-      let told : writtenOf kind s (length out) start ≡ written.Bits n = answered ∙ rw (le-leb start (length out) l, le-leb (bytesFor n) (length out - start) h) in
+      let told = roomy l h in
+      let frame = bytesOf (write kind s) in
       let nothing : postOf start k out ≡ [] = drop-of-length-le (drop start out) {i = k} (omega (arith, length-drop start out)) in
       let all-of : midOf start k out ≡ drop start out = take-all k (drop start out) (omega (arith, length-drop start out)) in (
         sym told,
-        ap₂ (λ (a b : List ℕ). take start out ++ (a ++ b)) (e ∙ ap (λ (a : List ℕ). bytesOf (write kind s) ++ drop (bytesFor n) a) all-of) nothing
+        ap₂ (λ (a b : List ℕ). take start out ++ (a ++ b)) (e ∙ ap (λ (a : List ℕ). frame ++ drop (bytesFor n) a) all-of) nothing
             ∙ ap (λ (a : List ℕ). take start out ++ a)
-            (append-nil (bytesOf (write kind s) ++ drop (bytesFor n) (drop start out)) ∙ ap (λ (a : List ℕ). bytesOf (write kind s) ++ a) (drop-drop (bytesFor n) start out))
+            (append-nil (frame ++ drop (bytesFor n) (drop start out)) ∙ ap (λ (a : List ℕ). frame ++ a) (drop-drop (bytesFor n) start out))
             ∙ rw (told),
       )
 

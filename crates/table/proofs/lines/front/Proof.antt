@@ -60,7 +60,9 @@ array-set-from-table-8 c = search needs
 
 returns : tie.Need-returns
 unfolding define span spans
-returns c = rw (c .before .before .before .before .before .before .before .before .longest .ensures) (short-lines (c .before .before .before .before .before .before .before .before .before .args .t1) _ (search needs))
+returns c =
+    rw (c .before .before .before .before .before .before .before .before .longest .ensures)
+    (short-lines (c .before .before .before .before .before .before .before .before .before .args .t1) _ (search needs))
 
 pub front-spec : {M : Type 1} → statement M
 front-spec =

@@ -1,11 +1,11 @@
 -- `table::tests::nothing_since` meets its contract. The loop's invariant: what is left decides.
 -- Assumes nothing.
-use Prim.Native.Nat.{_-_, suc}
+use Prim.Native.Nat.{_-_, _<_, suc, min}
 use mathlib.Core.Path.{_≡_, sym, _∙_}
 use native.Mathlib.Omega.{arith}
 use borrow.Author.Tests.{ne-eqb, eq-eqb}
 use lib.Dec.{eqb}
-use lib.ListN.{take, drop}
+use lib.ListN.{length, take, drop}
 use native.Mathlib.Numerals.{add-one}
 use Rattle.layout.specs.Row.{all}
 use Rattle.table.proofs.TestLaws.{nothing-next, nothing-end}
@@ -34,11 +34,17 @@ mul-if1 c = search needs
 shared-slice-read-if1 : tie.Need-shared-slice-read-if1 Inv-loop μ-loop
 shared-slice-read-if1 c = search needs
 
+-- in the loop, i is a place before `to` and within the values
+inside : (c : tie.In-loop Inv-loop μ-loop)
+    → let s = c .before .before .before .before in c .before .loop .i < min (s .args .to) (length (s .args .values .now))
+inside c = omega (arith, c .before .before .smaller .ensures, c .loop-test .taken)
+
 returns : tie.Need-returns Inv-loop μ-loop
 returns c =
-    let s = c .before .before .before .before .before .before in
-    let n = nothing-next (s .args .values .now) (s .args .to) (c .before .before .before .loop .i) (omega (arith, c .before .before .before .before .smaller .ensures, c .before .before .loop-test .taken)) in
-    sym (sym (c .before .before .before .loop .inv) ∙ n ∙ rw (ne-eqb _ 0 (c .if1 .taken)))
+    let now = c .before .before .before in
+    let s = now .before .before .before in
+    let n = nothing-next (s .args .values .now) (s .args .to) (now .loop .i) (inside (c .before .before)) in
+    sym (sym (now .loop .inv) ∙ n ∙ rw (ne-eqb _ 0 (c .if1 .taken)))
 
 add-i-2 : tie.Need-add-i-2 Inv-loop μ-loop
 add-i-2 c = search needs
@@ -48,14 +54,17 @@ loop-less c = search needs
 
 loop-again : tie.Need-loop-again Inv-loop μ-loop
 loop-again c =
-    let s = c .before .before .before .before .before .before in
-    let n = nothing-next (s .args .values .now) (s .args .to) (c .before .before .before .loop .i) (omega (arith, c .before .before .before .before .smaller .ensures, c .before .before .loop-test .taken)) in
-    sym (n ∙ rw (eq-eqb _ 0 (c .if1 .left))) ∙ c .before .before .before .loop .inv
+    let now = c .before .before .before in
+    let s = now .before .before .before in
+    let n = nothing-next (s .args .values .now) (s .args .to) (now .loop .i) (inside (c .before .before)) in
+    sym (n ∙ rw (eq-eqb _ 0 (c .if1 .left))) ∙ now .loop .inv
 
 returns-2 : tie.Need-returns-2 Inv-loop μ-loop
 returns-2 c =
-    let s = c .before .before .before .before in
-    sym (sym (c .before .loop .inv) ∙ nothing-end (s .args .values .now) (s .args .to) (c .before .loop .i) (omega (arith, c .before .before .smaller .ensures, c .loop-test .left)))
+    let now = c .before in
+    let s = now .before .before .before in
+    let end = nothing-end (s .args .values .now) (s .args .to) (now .loop .i) (omega (arith, now .before .smaller .ensures, c .loop-test .left)) in
+    sym (sym (now .loop .inv) ∙ end)
 
 pub nothing-since-spec : {M : Type 1} → statement M
 nothing-since-spec =

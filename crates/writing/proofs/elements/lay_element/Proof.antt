@@ -21,10 +21,12 @@ same-length-2 c = search needs
 
 returns : tie.Need-returns
 returns c =
-    let s = c .before .before .before .before .before .before .before .before .before .before .before .before .before in
+    let called = c .before .before .before .before in
+    let asked = called .before .before .before in
+    let s = asked .before .before .before .before .before .before in
     let a = s .args in
     element-puts (a .element .0) (a .element .1) (a .values .now) (a .at) (a .place) (a .clean .now) _ (a .out .now) _ _ (s .pre .0 .clear)
-    (sym (c .before .before .before .before .before .before .before .before .there .ensures) ∙ c .before .before .before .before .before .before .before .if1 .taken) (c .before .before .before .before .lay-shape .ensures)
+    (sym (asked .before .there .ensures) ∙ asked .if1 .taken) (called .lay-shape .ensures)
 
 same-length-3 : tie.Need-same-length-3
 same-length-3 c = search needs
@@ -33,8 +35,8 @@ returns-2 : tie.Need-returns-2
 returns-2 c =
     let s = c .before .before .before .before .before .before in
     let a = s .args in
-    element-off (a .element .0) (a .element .1) (a .values .now) (a .at) (a .place) (a .clean .now) (a .clean .now) (a .out .now) (a .out .now) (s .pre .0 .clear)
-    (sym (c .before .there .ensures) ∙ c .if1 .left) (omega (arith, s .pre .0 .size, s .pre .0 .room))
+    element-off (a .element .0) (a .element .1) (a .values .now) (a .at) (a .place) (a .clean .now) (a .clean .now) (a .out .now) (a .out .now)
+    (s .pre .0 .clear) (sym (c .before .there .ensures) ∙ c .if1 .left) (omega (arith, s .pre .0 .size, s .pre .0 .room))
 
 pub lay-element-spec : {M : Type 1} → statement M
 lay-element-spec =

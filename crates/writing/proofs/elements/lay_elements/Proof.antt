@@ -27,7 +27,9 @@ count-of-requires : tie.Need-count-of-requires Inv-loop μ-loop
 count-of-requires c κs = search needs
 
 loop-holds : tie.Need-loop-holds Inv-loop μ-loop
-loop-holds c = wrote-none (c .before .before .before .before .args .kind) _ (c .before .before .before .before .args .values .now) (c .before .before .before .before .args .out .now) (held c .same)
+loop-holds c =
+    let a = c .before .before .before .before .args in
+    wrote-none (a .kind) _ (a .values .now) (a .out .now) (held c .same)
 
 mul-element : tie.Need-mul-element Inv-loop μ-loop
 mul-element c = omega (arith, held (c .before .before) .few)
@@ -38,14 +40,16 @@ array-copy-out-element c = omega (arith, held (c .before .before) .few)
 cast-place : tie.Need-cast-place Inv-loop μ-loop
 cast-place c =
     let t = held (c .before .before .before .before) in
+    let now = c .before .before .before .loop .inv in
     let less = c .before .before .loop-test .taken in
-    omega (arith, turn-room t (c .before .before .before .loop .inv) less, turn-span t (c .before .before .before .loop .inv) less)
+    omega (arith, turn-room t now less, turn-span t now less)
 
 add-place : tie.Need-add-place Inv-loop μ-loop
 add-place c =
     let t = held (c .before .before .before .before) in
+    let now = c .before .before .before .loop .inv in
     let less = c .before .before .loop-test .taken in
-    omega (arith, turn-room t (c .before .before .before .loop .inv) less, turn-span t (c .before .before .before .loop .inv) less)
+    omega (arith, turn-room t now less, turn-span t now less)
 
 add-k : tie.Need-add-k Inv-loop μ-loop
 add-k c = omega (arith, held (c .before .before .before .before) .few, c .before .before .loop-test .taken)
@@ -54,7 +58,9 @@ slice-aggregate-lay-element : tie.Need-slice-aggregate-lay-element Inv-loop μ-l
 slice-aggregate-lay-element c = sym (c .before .before .before .before .loop .inv .lies .size)
 
 lay-element-requires : tie.Need-lay-element-requires Inv-loop μ-loop
-lay-element-requires c κs = turn-ready (held (c .before .before .before .before .before .before)) (c .before .before .before .before .before .loop .inv) (c .before .before .before .before .loop-test .taken) (c .before .before .before .before .before .before .before .before .before .before .pre)
+lay-element-requires c κs =
+    let turn = c .before .before .before .before in
+    turn-ready (held (turn .before .before)) (turn .before .loop .inv) (turn .loop-test .taken) (turn .before .before .before .before .before .before .pre)
 
 enum-known-next : tie.Need-enum-known-next Inv-loop μ-loop
 enum-known-next c = search needs
@@ -64,9 +70,12 @@ loop-less c = omega (arith, c .before .before .before .before .before .before .b
 
 loop-again : tie.Need-loop-again Inv-loop μ-loop
 loop-again c =
-    let t = held (c .before .before .before .before .before .before .before .before .before .before .before .before .before) in
-    let less = c .before .before .before .before .before .before .before .before .before .before .before .loop-test .taken in
-    turn-next t (c .before .before .before .before .before .before .before .before .before .before .before .before .loop .inv) less (c .before .before .before .before .before .before .lay-element .ensures) (turn-span t (c .before .before .before .before .before .before .before .before .before .before .before .before .loop .inv) less) (c .before .next .given .1)
+    let called = c .before .before .before .before .before .before in
+    let turn = called .before .before .before .before .before in
+    let now = turn .before .loop .inv in
+    let t = held (turn .before .before) in
+    let less = turn .loop-test .taken in
+    turn-next t now less (called .lay-element .ensures) (turn-span t now less) (c .before .next .given .1)
 
 enum-told : tie.Need-enum-told Inv-loop μ-loop
 enum-told c = search needs
@@ -76,18 +85,24 @@ loop-less-2 c = omega (arith, c .before .before .before .before .before .before 
 
 loop-again-2 : tie.Need-loop-again-2 Inv-loop μ-loop
 loop-again-2 c =
-    let t = held (c .before .before .before .before .before .before .before .before .before .before .before .before) in
-    let less = c .before .before .before .before .before .before .before .before .before .before .loop-test .taken in
-    turn-missing t (c .before .before .before .before .before .before .before .before .before .before .before .loop .inv) less (c .before .before .before .before .before .lay-element .ensures) (turn-span t (c .before .before .before .before .before .before .before .before .before .before .before .loop .inv) less) (c .enum-told .given .1)
+    let called = c .before .before .before .before .before in
+    let turn = called .before .before .before .before .before in
+    let now = turn .before .loop .inv in
+    let t = held (turn .before .before) in
+    let less = turn .loop-test .taken in
+    turn-missing t now less (called .lay-element .ensures) (turn-span t now less) (c .enum-told .given .1)
 
 enum-told-2 : tie.Need-enum-told-2 Inv-loop μ-loop
 enum-told-2 c = search needs
 
-same-length : tie.Need-same-length Inv-loop μ-loop
-same-length c = turn-bad (held (c .before .before .before .before .before .before .before .before .before .before .before .before)) (c .before .before .before .before .before .before .before .before .before .before .before .loop .inv) (c .before .before .before .before .before .before .before .before .before .before .loop-test .taken) (c .before .before .before .before .before .lay-element .ensures) (c .enum-told2 .given .1) .outcome .1
-
 returns : tie.Need-returns Inv-loop μ-loop
-returns c = turn-bad (held (c .before .before .before .before .before .before .before .before .before .before .before .before)) (c .before .before .before .before .before .before .before .before .before .before .before .loop .inv) (c .before .before .before .before .before .before .before .before .before .before .loop-test .taken) (c .before .before .before .before .before .lay-element .ensures) (c .enum-told2 .given .1)
+returns c =
+    let called = c .before .before .before .before .before in
+    let turn = called .before .before .before .before .before in
+    turn-bad (held (turn .before .before)) (turn .before .loop .inv) (turn .loop-test .taken) (called .lay-element .ensures) (c .enum-told2 .given .1)
+
+same-length : tie.Need-same-length Inv-loop μ-loop
+same-length c = returns c .outcome .1
 
 same-length-2 : tie.Need-same-length-2 Inv-loop μ-loop
 same-length-2 c = c .before .before .loop .inv .lies .over .size
