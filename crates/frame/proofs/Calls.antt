@@ -21,7 +21,7 @@ use Rattle.layout.specs.declared.Written.the-variants.{Bits}
 use Rattle.layout.specs.Read as answer
 use Rattle.layout.specs.Frame as spec
 use Rattle.layout.specs.Frame.{readBytes, asReading, readingOf, clean, valid}
-use Rattle.layout.proofs.Frames.{accepted, valid-judged, write-fits, write-then-read, MadeAgain, read-then-write}
+use Rattle.layout.proofs.Frames.{readAs, valid-judged, write-fits, write-then-read, MadeAgain, read-then-write}
 use Rattle.frame.proofs.read.Kinds as read-kinds
 use Rattle.frame.proofs.read.Reads as read
 use Rattle.frame.proofs.write.Kinds as write-kinds
@@ -38,7 +38,7 @@ module _ (κs λs : Lfts 1) (kind : Kind) (out frame : RefT (List ℕ)) (start c
   pub made-then-read : (values : Record) → write.Post κs (kind, (values, (out, (start, tt)))) (Bits count) left
       → now frame ≡ drop start (now (left .1 .1 .0))
       → read.Post λs (kind, (frame, (count, tt))) reading after
-      → reading ≡ accepted (clean kind (values .place))
+      → reading ≡ readAs (clean kind (values .place))
   made-then-read values w here r =
       r ∙ ap (λ (bytes : List ℕ). readingOf kind bytes count) (here ∙ ap (drop start) (w .1))
       ∙ write-then-read kind (values .place) (now out) start count (sym (w .0))
@@ -56,15 +56,17 @@ module _ (κs λs : Lfts 1) (kind : Kind) (out frame : RefT (List ℕ)) (start c
       (w .0 ∙ again .told (now out) start fit, w .1 ∙ again .made (now out) start fit)
 
   -- a record that has a frame, with room for it, is written, with its length: a writer that refuses everything is none
-  pub valid-is-written : (values : Record) (written : Written) → T (valid kind (values .place)) → start + bytesFor (length (spec.write kind (values .place))) ≤ length (now out)
+  pub valid-is-written : (values : Record) (written : Written) → T (valid kind (values .place))
+      → start + bytesFor (length (spec.write kind (values .place))) ≤ length (now out)
       → write.Post κs (kind, (values, (out, (start, tt)))) written left
       → written ≡ Bits (length (spec.write kind (values .place)))
   valid-is-written values written good fit w =
-      w .0 ∙ write-fits kind (values .place) (length (spec.write kind (values .place))) (valid-judged kind (values .place) good) refl (length (now out)) start fit
+      let n = length (spec.write kind (values .place)) in
+      w .0 ∙ write-fits kind (values .place) n (valid-judged kind (values .place) good) refl (length (now out)) start fit
 
   -- bits that are a frame are taken: a reader that refuses everything is none
   pub frame-is-taken : (s : List ℕ) → count ≤ 8 * length (now frame) → spec.read kind (take count (bitsOf (now frame))) ≡ answer.frame s
       → read.Post λs (kind, (frame, (count, tt))) reading after
-      → reading ≡ accepted s
+      → reading ≡ readAs s
   unfolding readingOf readBytes asReading
   frame-is-taken s enough e r = r ∙ rw (le-ltb (8 * length (now frame)) count enough, e)

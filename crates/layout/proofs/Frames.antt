@@ -226,11 +226,11 @@ read-output kind s out start n e =
     let before = length-take-le start out (w .inside) in
     rw (e, drop-at (take start out) (bytesOf (write kind s) ++ rest) start before, w .reads rest)
 
-abbrev pub accepted : List ℕ → Reading
-accepted s = record { verdict = Frame; values = record { place = filled s } }
+abbrev pub readAs : List ℕ → Reading
+readAs s = record { verdict = Frame; values = record { place = filled s } }
 
 pub write-then-read : (kind : Kind) (s out : List ℕ) (start n : ℕ) → writtenOf kind s (length out) start ≡ Bits n
-    → readingOf kind (drop start (outputOf kind s out start)) n ≡ accepted (clean kind s)
+    → readingOf kind (drop start (outputOf kind s out start)) n ≡ readAs (clean kind s)
 unfolding readingOf asReading
 write-then-read kind s out start n e = ap asReading (read-output kind s out start n e)
 

@@ -1,4 +1,5 @@
--- The tables of document 000, element by element. `callRelated ← yesNo always` adds an element and names its place in the record, for the elements that hang on it.
+-- The tables of document 000, element by element.
+-- `callRelated ← yesNo always` adds an element and names its place in the record, for the elements that hang on it.
 -- A table ends with the names of its places: whoever looks at a record takes them from here.
 -- Assumes nothing.
 use Prim.Native.Nat.{ℕ, _+_, _-_}

@@ -9,7 +9,6 @@ use Rattle.refusal.specs.declared.Refusal.{Refusal}
 use Rattle.bits.specs.Bits.{bitsOf}
 use Rattle.reading.specs.declared.Step.{Step}
 use Rattle.reading.specs.declared.Step.the-variants.{Next, Refused}
-use Rattle.layout.specs.declared.Shape.the-variants as shape
 use Rattle.layout.specs.Row.{Row}
 use Rattle.layout.specs.Read.{Answer, refused, readRows}
 

@@ -21,14 +21,15 @@ shortLines = 8
 abbrev pub past : Element
 past = record { 0 = Always; 1 = Number 0; 2 = 0 }
 
-abbrev pub filled : List Element → List Element
-filled table = table ++ replicate (shortLines - length table) past
+-- a short table, up to its size; and at the front of table 19
+abbrev pub padded : List Element → List Element
+padded table = table ++ replicate (shortLines - length table) past
 
 abbrev pub fronted : List Element → List Element
 fronted short = short ++ drop shortLines (define .elements)
 
 abbrev pub linesOf : Kind → List Element
 linesOf Define = define .elements
-linesOf DefineAck = fronted (filled (tableOf DefineAck))
-linesOf Cancel = fronted (filled (tableOf Cancel))
-linesOf CancelAck = fronted (filled (tableOf CancelAck))
+linesOf DefineAck = fronted (padded (tableOf DefineAck))
+linesOf Cancel = fronted (padded (tableOf Cancel))
+linesOf CancelAck = fronted (padded (tableOf CancelAck))
