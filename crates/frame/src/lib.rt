@@ -39,7 +39,8 @@ pub fn fault(kind: Kind, values: Record) -> Judged
 
 // Writes a record's frame into `out` from the byte `start` on; refusals 4, 5 and 8 leave `out` as it is.
 pub fn write(kind: Kind, values: Record, out: &mut [u8], start: usize) -> Written
-    ensures { λ r. ⌜ (r ≡ writtenOf kind (values .place) (length (now (out .entry))) start) × (now (out .exit) ≡ outputOf kind (values .place) (now (out .entry)) start) ⌝ }
+    ensures { λ r. ⌜ (r ≡ writtenOf kind (values .place) (length (now (out .entry))) start)
+        × (now (out .exit) ≡ outputOf kind (values .place) (now (out .entry)) start) ⌝ }
 {
     write_record(kind, &values.place, out, start)
 }

@@ -81,7 +81,8 @@ fn read_element(
     element: Element,
 ) -> Step
     requires { ⌜ (bits ≤ 8 * length (now frame)) × (place + span (element .1) ≤ length (now values)) × Clear (now values) place × T (sound (element .1) place) ⌝ }
-    ensures { λ r. ⌜ Reads (rowsOf (element .1) (conditionsOf (element .0)) place) (whole (now (frame .entry)) bits) at place (now (values .entry)) (now (values .exit)) r ⌝ }
+    ensures { λ r. ⌜ Reads (rowsOf (element .1) (conditionsOf (element .0)) place) (whole (now (frame .entry)) bits) at place
+        (now (values .entry)) (now (values .exit)) r ⌝ }
 {
     let when = element.0;
     let shape = element.1;

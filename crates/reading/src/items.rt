@@ -122,7 +122,8 @@ fn read_listed(
     i: u8,
 ) -> Step
     requires { ⌜ (bits ≤ 8 * length (now frame)) × (count < place) × (place + stride items ≤ length (now values)) × Clear (now values) place ⌝ }
-    ensures { λ r. ⌜ Reads (item items (atLeast count (least items i) ∷ []) place) (whole (now (frame .entry)) bits) at place (now (values .entry)) (now (values .exit)) r ⌝ }
+    ensures { λ r. ⌜ Reads (item items (atLeast count (least items i) ∷ []) place) (whole (now (frame .entry)) bits) at place
+        (now (values .entry)) (now (values .exit)) r ⌝ }
 {
     if least_for(items, i) <= values[count] {
         read_item(frame, bits, at, values, place, items)
@@ -141,7 +142,8 @@ fn read_items(
     items: Items,
 ) -> Step
     requires { ⌜ (bits ≤ 8 * length (now frame)) × (count + 1 + stride items * times items ≤ length (now values)) × Clear (now values) (count + 1) ⌝ }
-    ensures { λ r. ⌜ Reads (repeated items count (count + 1) 0 (times items)) (whole (now (frame .entry)) bits) from (count + 1) (now (values .entry)) (now (values .exit)) r ⌝ }
+    ensures { λ r. ⌜ Reads (repeated items count (count + 1) 0 (times items)) (whole (now (frame .entry)) bits) from (count + 1)
+        (now (values .entry)) (now (values .exit)) r ⌝ }
 {
     let many = times_of(items);
     let each = stride_of(items);

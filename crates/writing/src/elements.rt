@@ -47,7 +47,8 @@ fn lay_shape(
     shape: Shape,
 ) -> Laying
     requires { ⌜ Ready (now values) (now clean) at place (span shape) × T (sound shape place) ⌝ }
-    ensures { λ r. ⌜ Puts (rowsOf shape [] place) (now (values .entry)) at place (now (clean .entry)) (now (clean .exit)) (now (out .entry)) (now (out .exit)) r ⌝ }
+    ensures { λ r. ⌜ Puts (rowsOf shape [] place) (now (values .entry)) at place
+        (now (clean .entry)) (now (clean .exit)) (now (out .entry)) (now (out .exit)) r ⌝ }
 {
     match shape {
         Shape::Number(w) => told(lay_field(values, clean, out, at, place, number(w))),
@@ -82,7 +83,8 @@ fn lay_element(
     element: Element,
 ) -> Laying
     requires { ⌜ Ready (now values) (now clean) at place (span (element .1)) × T (sound (element .1) place) ⌝ }
-    ensures { λ r. ⌜ Puts (rowsOf (element .1) (conditionsOf (element .0)) place) (now (values .entry)) at place (now (clean .entry)) (now (clean .exit)) (now (out .entry)) (now (out .exit)) r ⌝ }
+    ensures { λ r. ⌜ Puts (rowsOf (element .1) (conditionsOf (element .0)) place) (now (values .entry)) at place
+        (now (clean .entry)) (now (clean .exit)) (now (out .entry)) (now (out .exit)) r ⌝ }
 {
     let when = element.0;
     let shape = element.1;

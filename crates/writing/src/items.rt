@@ -44,7 +44,8 @@ pub fn lay_field(
     field: Field,
 ) -> Put
     requires { ⌜ Ready (now values) (now clean) at place 1 × Narrow field ⌝ }
-    ensures { λ r. ⌜ Lays (rowFor field [] ∷ []) (now (values .entry)) at place (now (clean .entry)) (now (clean .exit)) (now (out .entry)) (now (out .exit)) r ⌝ }
+    ensures { λ r. ⌜ Lays (rowFor field [] ∷ []) (now (values .entry)) at place
+        (now (clean .entry)) (now (clean .exit)) (now (out .entry)) (now (out .exit)) r ⌝ }
 {
     let v = held(field, values[place]);
     let first = field.first;
@@ -64,7 +65,8 @@ pub fn lay_field(
 // The extension, where the form has one.
 fn lay_extension(values: &[u32], clean: &mut [u32], out: &mut [u8], at: usize, place: usize) -> Put
     requires { ⌜ Ready (now values) (now clean) at (place + 3) 1 ⌝ }
-    ensures { λ r. ⌜ Lays (drop 3 (identity [] place)) (now (values .entry)) at (place + 3) (now (clean .entry)) (now (clean .exit)) (now (out .entry)) (now (out .exit)) r ⌝ }
+    ensures { λ r. ⌜ Lays (drop 3 (identity [] place)) (now (values .entry)) at (place + 3)
+        (now (clean .entry)) (now (clean .exit)) (now (out .entry)) (now (out .exit)) r ⌝ }
 {
     if clean[place] == 3 {
         lay_field(values, clean, out, at, place + 3, EXTENSION)
@@ -76,7 +78,8 @@ fn lay_extension(values: &[u32], clean: &mut [u32], out: &mut [u8], at: usize, p
 // What follows an identity's form.
 fn lay_form(values: &[u32], clean: &mut [u32], out: &mut [u8], at: usize, place: usize) -> Put
     requires { ⌜ Ready (now values) (now clean) at (place + 1) 3 ⌝ }
-    ensures { λ r. ⌜ Lays (drop 1 (identity [] place)) (now (values .entry)) at (place + 1) (now (clean .entry)) (now (clean .exit)) (now (out .entry)) (now (out .exit)) r ⌝ }
+    ensures { λ r. ⌜ Lays (drop 1 (identity [] place)) (now (values .entry)) at (place + 1)
+        (now (clean .entry)) (now (clean .exit)) (now (out .entry)) (now (out .exit)) r ⌝ }
 {
     if clean[place] == 1 {
         return lay_field(values, clean, out, at, place + 1, SNA);
@@ -117,7 +120,8 @@ fn lay_item(
     items: Items,
 ) -> Put
     requires { ⌜ Ready (now values) (now clean) at place (stride items) ⌝ }
-    ensures { λ r. ⌜ Lays (item items [] place) (now (values .entry)) at place (now (clean .entry)) (now (clean .exit)) (now (out .entry)) (now (out .exit)) r ⌝ }
+    ensures { λ r. ⌜ Lays (item items [] place) (now (values .entry)) at place
+        (now (clean .entry)) (now (clean .exit)) (now (out .entry)) (now (out .exit)) r ⌝ }
 {
     match items {
         Items::Numbers => lay_identity(values, clean, out, at, place),
@@ -137,7 +141,8 @@ fn lay_listed(
     i: u8,
 ) -> Put
     requires { ⌜ Ready (now values) (now clean) at place (stride items) × (count < place) ⌝ }
-    ensures { λ r. ⌜ Lays (item items (atLeast count (least items i) ∷ []) place) (now (values .entry)) at place (now (clean .entry)) (now (clean .exit)) (now (out .entry)) (now (out .exit)) r ⌝ }
+    ensures { λ r. ⌜ Lays (item items (atLeast count (least items i) ∷ []) place) (now (values .entry)) at place
+        (now (clean .entry)) (now (clean .exit)) (now (out .entry)) (now (out .exit)) r ⌝ }
 {
     if least_for(items, i) <= clean[count] {
         lay_item(values, clean, out, at, place, items)
@@ -156,7 +161,8 @@ fn lay_items(
     items: Items,
 ) -> Put
     requires { ⌜ Ready (now values) (now clean) from (count + 1) (stride items * times items) ⌝ }
-    ensures { λ r. ⌜ Lays (repeated items count (count + 1) 0 (times items)) (now (values .entry)) from (count + 1) (now (clean .entry)) (now (clean .exit)) (now (out .entry)) (now (out .exit)) r ⌝ }
+    ensures { λ r. ⌜ Lays (repeated items count (count + 1) 0 (times items)) (now (values .entry)) from (count + 1)
+        (now (clean .entry)) (now (clean .exit)) (now (out .entry)) (now (out .exit)) r ⌝ }
 {
     let many = times_of(items);
     let each = stride_of(items);
@@ -188,7 +194,8 @@ pub fn lay_list(
     items: Items,
 ) -> Put
     requires { ⌜ Ready (now values) (now clean) at place (1 + stride items * times items) ⌝ }
-    ensures { λ r. ⌜ Lays (rowsOf (shape.List items) [] place) (now (values .entry)) at place (now (clean .entry)) (now (clean .exit)) (now (out .entry)) (now (out .exit)) r ⌝ }
+    ensures { λ r. ⌜ Lays (rowsOf (shape.List items) [] place) (now (values .entry)) at place
+        (now (clean .entry)) (now (clean .exit)) (now (out .entry)) (now (out .exit)) r ⌝ }
 {
     match lay_field(values, clean, out, at, place, count_field(items)) {
         Put::Next(next) => lay_items(values, clean, out, next, place, items),

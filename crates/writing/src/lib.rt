@@ -85,7 +85,8 @@ fn lay_spare(out: &mut [u8], bits: usize)
 
 // A record that is known to be writable, into bytes that have room for it.
 fn lay_whole(kind: Kind, values: &[u32], out: &mut [u8], bits: usize)
-    requires { ⌜ (length (now values) ≡ places) × T (spec.valid kind (now values)) × (bits ≡ length (spec.write kind (now values))) × (bytesFor bits ≤ length (now out)) × (bits ≤ mostBits) ⌝ }
+    requires { ⌜ (length (now values) ≡ places) × T (spec.valid kind (now values)) × (bits ≡ length (spec.write kind (now values)))
+        × (bytesFor bits ≤ length (now out)) × (bits ≤ mostBits) ⌝ }
     ensures { λ _. ⌜ now (out .exit) ≡ bytesOf (spec.write kind (now (values .entry))) ++ drop (bytesFor bits) (now (out .entry)) ⌝ }
 {
     lay_frame(kind, values, out);
@@ -95,7 +96,8 @@ fn lay_whole(kind: Kind, values: &[u32], out: &mut [u8], bits: usize)
 // The same into the part of `out` from the byte `start` on, if there is room.
 fn write_part(kind: Kind, values: &[u32], out: &mut [u8], start: usize, bits: usize) -> Written
     requires { ⌜ (length (now values) ≡ places) × T (spec.valid kind (now values)) × (bits ≡ length (spec.write kind (now values))) × (bits ≤ mostBits) ⌝ }
-    ensures { λ r. ⌜ (r ≡ spec.writtenOf kind (now (values .entry)) (length (now (out .entry))) start) × (now (out .exit) ≡ spec.outputOf kind (now (values .entry)) (now (out .entry)) start) ⌝ }
+    ensures { λ r. ⌜ (r ≡ spec.writtenOf kind (now (values .entry)) (length (now (out .entry))) start)
+        × (now (out .exit) ≡ spec.outputOf kind (now (values .entry)) (now (out .entry)) start) ⌝ }
 {
     if out.len() < start {
         return Written::Refused(Refusal::NoSpace);
@@ -116,7 +118,8 @@ pub fn judge_record(kind: Kind, values: &[u32; PLACES]) -> Judged
 
 // Writes a record, or refuses it and leaves `out` as it is.
 pub fn write_record(kind: Kind, values: &[u32; PLACES], out: &mut [u8], start: usize) -> Written
-    ensures { λ r. ⌜ (r ≡ spec.writtenOf kind (now (values .entry)) (length (now (out .entry))) start) × (now (out .exit) ≡ spec.outputOf kind (now (values .entry)) (now (out .entry)) start) ⌝ }
+    ensures { λ r. ⌜ (r ≡ spec.writtenOf kind (now (values .entry)) (length (now (out .entry))) start)
+        × (now (out .exit) ≡ spec.outputOf kind (now (values .entry)) (now (out .entry)) start) ⌝ }
 {
     match walk(kind, values) {
         Walked::Bits(n) => write_part(kind, values, out, start, n),
