@@ -1,6 +1,6 @@
 -- Laws of an order's lists and row.
 pub mod Walks
-pub mod Lists
+pub mod ListLaws
 pub mod Words
 pub mod Named
 pub mod Recorded

@@ -4,7 +4,7 @@ use contract.Lifetimes.{Lfts}
 use borrow.Fn.Kinds.{Dens, resT, endedOf}
 use denote.Triple.Clauses.{AtExit}
 use Rattle.order.specs.Lists.{listOf}
-use Rattle.order.proofs.Lists.{keys-whole}
+use Rattle.order.proofs.ListLaws.{keys-whole}
 use Rattle.order.proofs.member.Kinds as member-kinds
 use Rattle.order.proofs.member.Reads as member
 use Rattle.order.proofs.bad_list.Kinds as bad-list-kinds

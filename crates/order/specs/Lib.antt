@@ -1,5 +1,7 @@
 -- The definitions that the contracts of an order's lists and row cite.
 pub mod Walks
 pub mod Lists
+pub mod Keys
 pub mod Row
 pub mod Recorded
+pub mod Steps

@@ -5,6 +5,7 @@ use mathlib.Core.Option.{Option, none, some}
 use mathlib.Core.List.{List, [], _∷_}
 use lib.Dec.{eqb, ltb}
 use lib.ListN.{length, getD}
+use Rattle.rows.specs.Layout.{groupWords, keyWord, referenceWord, callWord, broadcastWord, classWord, lifetimeWord, nameLength, firstLetter, ownerCount, firstOwner}
 use Rattle.rules.specs.Recorded.{optionalNumber, optionalChoice, optionalName, setReference, acknowledgedCall, broadcast, classOfUsage, attachmentLifetime, temporaryAssignment}
 
 -- a value that may be absent, one up
@@ -23,13 +24,20 @@ words f (suc n) k = f k ∷ words f n (suc k)
 
 abbrev pub valueWord : List ℕ → ℕ → ℕ
 valueWord places j =
-    cond (eqb j 1) (heldOf (optionalNumber places setReference)) (cond (eqb j 2) (heldOf (optionalChoice places acknowledgedCall)) (cond (eqb j 3) (heldOf (optionalChoice places broadcast))
-    (cond (eqb j 4) (heldOf (optionalNumber places classOfUsage)) (cond (eqb j 5) (heldOf (optionalNumber places attachmentLifetime)) (heldOf (optionalNumber places temporaryAssignment))))))
+    cond (eqb j referenceWord) (heldOf (optionalNumber places setReference))
+    (cond (eqb j callWord) (heldOf (optionalChoice places acknowledgedCall))
+    (cond (eqb j broadcastWord) (heldOf (optionalChoice places broadcast))
+    (cond (eqb j classWord) (heldOf (optionalNumber places classOfUsage))
+    (cond (eqb j lifetimeWord) (heldOf (optionalNumber places attachmentLifetime))
+    (heldOf (optionalNumber places temporaryAssignment))))))
 
 abbrev pub orderWord : List ℕ → List ℕ → ℕ → ℕ
 orderWord places owners j =
-    cond (eqb j 0) 0 (cond (ltb j 7) (valueWord places j) (cond (eqb j 7) (length (lettersOf (optionalName places)))
-    (cond (ltb j 24) (getD (lettersOf (optionalName places)) (j - 8) 0) (cond (eqb j 24) (length owners) (getD owners (j - 25) 0)))))
+    cond (eqb j keyWord) 0
+    (cond (ltb j nameLength) (valueWord places j)
+    (cond (eqb j nameLength) (length (lettersOf (optionalName places)))
+    (cond (ltb j ownerCount) (getD (lettersOf (optionalName places)) (j - firstLetter) 0)
+    (cond (eqb j ownerCount) (length owners) (getD owners (j - firstOwner) 0)))))
 
 unfoldable pub orderRowOf : List ℕ → List ℕ → List ℕ
-orderRowOf places owners = words (orderWord places owners) 36 0
+orderRowOf places owners = words (orderWord places owners) groupWords 0

@@ -6,12 +6,13 @@ use mathlib.Core.List.{[], _∷_}
 use mathlib.Core.Option.{Option, none, some}
 use native.Mathlib.Omega.{arith}
 use Rattle.rules.specs.Lists.{present, mem}
-use Rattle.rules.specs.Number.{numbersIn}
+use Rattle.rules.specs.Number.{key, numbersIn}
 use Rattle.rules.specs.Parameters.{noParameters, replaced}
 use Rattle.rules.specs.Mark.{Mark, begun}
 use Rattle.rules.specs.Order.{Define, Delete, Step, define, delete, defineGroups, defineRadios, defineOwners, deleteGroups}
-use Rattle.rules.specs.World.{World, after}
+use Rattle.rules.specs.World.{World}
 use Rattle.rules.specs.Effect.{effect}
+use Rattle.rules.specs.Change.{after}
 use Rattle.rules.specs.Refusals.{accepted}
 use Rattle.rules.specs.Demand.{told, Exactly}
 use Rattle.refusal.specs.declared.Refusal.{Refusal}
@@ -53,8 +54,8 @@ gone-bare h g = subst (λ (w : World). w .stands g ≡ false → Bare w g) (run-
     unmarked r (some m) q e = clash (sym (run-form h .there g r (ap present q)) ∙ e)
 
 -- an accepted step has its effect
-pub world-taken : (h : History) (s : Step) → refusalIn h s ≡ none → world (h then s) ≡ after (world h) (effect s)
-world-taken h s e = ap (λ (r : Option Refusal). cond (accepted r) (after (world h) (effect s)) (world h)) e
+pub world-taken : (h : History) (s : Step) → refusalIn h s ≡ none → world (h then s) ≡ after (world h) (effect (world h) s)
+world-taken h s e = ap (λ (r : Option Refusal). cond (accepted r) (after (world h) (effect (world h) s)) (world h)) e
 
 -- an accepted delete with "delete yes" takes the group away
 pub deleted-gone : (h : History) (d : Delete) (room g : ℕ) → refusalIn h (delete d room) ≡ none → d .delete ≡ true → mem g (deleteGroups d) ≡ true
@@ -62,7 +63,8 @@ pub deleted-gone : (h : History) (d : Delete) (room g : ℕ) → refusalIn h (de
 deleted-gone h d room g e y n =
     ap (λ (w : World). w .stands g) (world-taken h (delete d room) e) ∙ ap (λ (b : Bool). not b && stands h g) (and-in y n)
 
-module _ (h : History) (o : Define) (room g : ℕ) (gone : stands h g ≡ false) (accepts : refusalIn h (define o room) ≡ none) (names : mem g (defineGroups o) ≡ true) where
+module _ (h : History) (o : Define) (room g : ℕ)
+    (gone : stands h g ≡ false) (accepts : refusalIn h (define o room) ≡ none) (names : mem g (defineGroups o) ≡ true) where
   -- its radios are those that this define assigns
   pub made-mark : (r : ℕ) → mark (h then define o room) g r ≡ cond (mem r (defineRadios o)) (some (begun (o .acknowledgement))) none
   made-mark r = ap (λ (w : World). w .mark g r) (world-taken h (define o room) accepts) ∙ rw (names, gone-bare h g gone .marks r) refl
@@ -75,28 +77,39 @@ module _ (h : History) (o : Define) (room g : ℕ) (gone : stands h g ≡ false)
   pub made-parameters : world (h then define o room) .parameters g ≡ replaced (o .parameters) noParameters
   made-parameters = ap (λ (w : World). w .parameters g) (world-taken h (define o room) accepts) ∙ rw (names, gone-bare h g gone .parameters) refl
 
-  -- a define that assigns none makes an empty group: the asker's list holds nothing, and needs no room
-  pub made-empty : o .radios ≡ none → (room′ : ℕ) → list (run (h then define o room)) (o .asker) g room′ ≡ record { refused = none; entries = [] }
-  made-empty n room′ =
-      let e = list-exact (h then define o room) (o .asker) g room′ asker-owns (rw no-radios (omega arith)) in
-      λ i. record { refused = e .0 i; entries = exactly-unique (h then define o room) g _ [] (e .1) nothing-listed i }
-    where
-      unmarked : (r : ℕ) → mark (h then define o room) g r ≡ none
-      unmarked r = made-mark r ∙ rw n refl
+  -- with none assigned it has no radio
+  made-unmarked : o .radios ≡ none → (r : ℕ) → mark (h then define o room) g r ≡ none
+  made-unmarked n r = made-mark r ∙ rw n refl
 
-      no-radios : radiosIn (h then define o room) g ≡ []
-      no-radios = no-member (radiosIn (h then define o room) g) (λ r. radios-marked (h then define o room) g r ∙ ap present (unmarked r))
+  made-asker : owner (h then define o room) g (key (o .asker)) ≡ true
+  made-asker =
+      let a = key (o .asker) in
+      made-owner a ∙ mem-once a (a ∷ numbersIn (o .owners)) ∙ mem-head a (numbersIn (o .owners))
 
-      asker-owns : owner (h then define o room) g (o .asker) ≡ true
-      asker-owns = made-owner (o .asker) ∙ mem-once (o .asker) (o .asker ∷ numbersIn (o .owners)) ∙ mem-head (o .asker) (numbersIn (o .owners))
+-- a define that assigns none makes an empty group: the asker's list holds nothing, and needs no room
+pub made-empty : (h : History) (o : Define) (room g : ℕ) → stands h (key g) ≡ false → refusalIn h (define o room) ≡ none
+    → mem (key g) (defineGroups o) ≡ true → o .radios ≡ none
+    → (room′ : ℕ) → list (run (h then define o room)) (o .asker) g room′ ≡ record { refused = none; entries = [] }
+made-empty h o room g gone accepts names n room′ =
+    let e = list-exact h′ (o .asker) g room′ (made-asker h o room (key g) gone accepts names) (rw no-radios (omega arith)) in
+    λ i. record { refused = e .0 i; entries = exactly-unique h′ (key g) _ [] (e .1) nothing-listed i }
+  where
+    h′ : History
+    h′ = h then define o room
 
-      nothing-listed : Exactly (h then define o room) g []
-      nothing-listed = record { rises = tt; says = λ r. sym (ap told (unmarked r)) }
+    unmarked : (r : ℕ) → mark h′ (key g) r ≡ none
+    unmarked = made-unmarked h o room (key g) gone accepts names n
+
+    no-radios : radiosIn h′ (key g) ≡ []
+    no-radios = no-member (radiosIn h′ (key g)) (λ r. radios-marked h′ (key g) r ∙ ap present (unmarked r))
+
+    nothing-listed : Exactly h′ (key g) []
+    nothing-listed = record { rises = tt; says = λ r. sym (ap told (unmarked r)) }
 
 -- a group deleted and made again starts empty, whatever radios it had
 pub again-empty : (h : History) (d : Delete) (o : Define) (g room room′ room″ : ℕ)
-    → refusalIn h (delete d room) ≡ none → d .delete ≡ true → mem g (deleteGroups d) ≡ true
-    → refusalIn (h then delete d room) (define o room′) ≡ none → mem g (defineGroups o) ≡ true → o .radios ≡ none
+    → refusalIn h (delete d room) ≡ none → d .delete ≡ true → mem (key g) (deleteGroups d) ≡ true
+    → refusalIn (h then delete d room) (define o room′) ≡ none → mem (key g) (defineGroups o) ≡ true → o .radios ≡ none
     → list (run (h then delete d room then define o room′)) (o .asker) g room″ ≡ record { refused = none; entries = [] }
 again-empty h d o g room room′ room″ e y n e′ n′ r =
-    made-empty (h then delete d room) o room′ g (deleted-gone h d room g e y n) e′ n′ r room″
+    made-empty (h then delete d room) o room′ g (deleted-gone h d room (key g) e y n) e′ n′ r room″

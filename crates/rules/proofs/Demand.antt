@@ -8,11 +8,11 @@ use lib.Dec.{ltb, leb}
 use lib.ListN.{length}
 use borrow.Author.Tests.{le-ltb, not-true}
 use Rattle.rules.specs.Lists.{all, unique, present, mem, rising, Rising}
-use Rattle.rules.specs.Number.{wide}
+use Rattle.rules.specs.Number.{key, wide, wideKey}
 use Rattle.rules.specs.Parameters.{noParameters, badParameters}
 use Rattle.rules.specs.World.{World, ownersIn}
 use Rattle.rules.specs.Refusals.{accepted, showRefusal, listRefusal}
-use Rattle.rules.specs.Replies.{Listed, entries, Listing, Showing}
+use Rattle.rules.specs.Replies.{Entry, entries, Listing, Showing}
 use Rattle.rules.specs.Ledger.{Group, group, ownersOf, list, show}
 use Rattle.rules.specs.Written.{maxOwners, goodOwners, goodGroup}
 use Rattle.rules.specs.History.{History, namedIn, world, stands, owner, mark, radiosIn, listIn, showIn}
@@ -22,6 +22,7 @@ use Rattle.rules.proofs.Tests.{clash, and-l, and-r}
 use Rattle.rules.proofs.ListLaws.{all-in, rising-keep, rising-rising}
 use Rattle.rules.proofs.Totals.{narrow}
 use Rattle.rules.proofs.Agree.{run-kept, run-agree, list-agree, show-agree}
+use Rattle.rules.proofs.Ranges.{key-wide}
 use Rattle.rules.proofs.Written.{run-form}
 use Rattle.rules.proofs.Listing.{same-entries, entries-radios, entries-say}
 
@@ -45,64 +46,69 @@ entries-exact h g = record {
 
 -- ---- an owner is not refused ----
 
--- an owner and its group are numbers of 24 bits, and the group stands
-owner-known : (h : History) (g a : ℕ) → owner h g a ≡ true → (wide a ≡ false) × (wide g ≡ false) × (stands h g ≡ true)
-owner-known h g a = subst (λ (w : World). w .owner g a ≡ true → (wide a ≡ false) × (wide g ≡ false) × (w .stands g ≡ true)) (run-agree h)
+-- an owner and its group are keys of 24 bits, and the group stands
+owner-known : (h : History) (g a : ℕ) → owner h g a ≡ true → (wideKey a ≡ false) × (wideKey g ≡ false) × (stands h g ≡ true)
+owner-known h g a = subst (λ (w : World). w .owner g a ≡ true → (wideKey a ≡ false) × (wideKey g ≡ false) × (w .stands g ≡ true)) (run-agree h)
     (known (group (run h) g) (run-form h .groups g))
   where
     known : (o : Option Group) → ((x : Group) → o ≡ some x → goodGroup (g, x) ≡ true) → mem a (ownersOf o) ≡ true
-        → (wide a ≡ false) × (wide g ≡ false) × (present o ≡ true)
+        → (wideKey a ≡ false) × (wideKey g ≡ false) × (present o ≡ true)
     known none f e = clash (sym e)
     known (some x) f e =
         let k = f x refl in
         let few = ltb 0 (length (x .owners)) in
         let many = leb (length (x .owners)) maxOwners in
-        let narrow = all (λ a. not (wide a)) (x .owners) in
+        let narrow = all (λ a. not (wideKey a)) (x .owners) in
         let owners = and-l (goodOwners (x .owners)) (not (badParameters (x .parameters)))
-        (and-r (not (wide g)) (goodOwners (x .owners) && not (badParameters (x .parameters))) k) in
-        let all-narrow = and-r (unique (x .owners)) narrow (and-r many (unique (x .owners) && narrow) (and-r few (many && (unique (x .owners) && narrow)) owners)) in (
-          not-true (wide a) (all-in (λ a. not (wide a)) a (x .owners) all-narrow e),
-          not-true (wide g) (and-l (not (wide g)) (goodOwners (x .owners) && not (badParameters (x .parameters))) k),
+        (and-r (not (wideKey g)) (goodOwners (x .owners) && not (badParameters (x .parameters))) k) in
+        let apart = unique (x .owners) in
+        let all-narrow = and-r apart narrow (and-r many (apart && narrow) (and-r few (many && (apart && narrow)) owners)) in (
+          not-true (wideKey a) (all-in (λ a. not (wideKey a)) a (x .owners) all-narrow e),
+          not-true (wideKey g) (and-l (not (wideKey g)) (goodOwners (x .owners) && not (badParameters (x .parameters))) k),
           refl,
         )
+
+-- so an asker and a group as handed over are in range where the one owns the other
+known : (h : History) (g asker : ℕ) → owner h (key g) (key asker) ≡ true → (wide asker ≡ false) × (wide g ≡ false) × (stands h (key g) ≡ true)
+known h g asker o = let k = owner-known h (key g) (key asker) o in (sym (key-wide asker) ∙ k .0, sym (key-wide g) ∙ k .1, k .2)
 
 -- ---- the demand ----
 
 -- by an owner, with room for the group's radios: the list is accepted, and is exactly the history's
-pub list-exact : (h : History) (asker g room : ℕ) → owner h g asker ≡ true → length (radiosIn h g) ≤ room
-    → (list (run h) asker g room .refused ≡ none) × Exactly h g (list (run h) asker g room .entries)
+pub list-exact : (h : History) (asker g room : ℕ) → owner h (key g) (key asker) ≡ true → length (radiosIn h (key g)) ≤ room
+    → (list (run h) asker g room .refused ≡ none) × Exactly h (key g) (list (run h) asker g room .entries)
 list-exact h asker g room o n =
-    subst (λ (l : Listing). (l .refused ≡ none) × Exactly h g (l .entries)) (sym (list-agree h asker g room ∙ told-all)) (refl, entries-exact h g)
+    subst (λ (l : Listing). (l .refused ≡ none) × Exactly h (key g) (l .entries)) (sym (list-agree h asker g room ∙ told-all)) (refl, entries-exact h (key g))
   where
-    taken : listRefusal (world h) asker g (radiosIn h g) room ≡ none
-    taken = let k = owner-known h g asker o in cc (k .0, k .1, k .2, le-ltb room (length (radiosIn h g)) n)
+    taken : listRefusal (world h) asker g (radiosIn h (key g)) room ≡ none
+    taken = let k = known h g asker o in cc (k .0, k .1, k .2, le-ltb room (length (radiosIn h (key g))) n)
 
-    told-all : listIn h asker g room ≡ record { refused = none; entries = entries (world h) (radiosIn h g) g }
-    told-all = λ i. record { refused = taken i; entries = cond (accepted (taken i)) (entries (world h) (radiosIn h g) g) [] }
+    told-all : listIn h asker g room ≡ record { refused = none; entries = entries (world h) (radiosIn h (key g)) (key g) }
+    told-all = λ i. record { refused = taken i; entries = cond (accepted (taken i)) (entries (world h) (radiosIn h (key g)) (key g)) [] }
 
 -- by an owner: the show is accepted, and tells what the history says
-pub show-exact : (h : History) (asker g : ℕ) → owner h g asker ≡ true
-    → (show (run h) asker g .refused ≡ none) × Tells h g (show (run h) asker g .owners) (show (run h) asker g .parameters)
+pub show-exact : (h : History) (asker g : ℕ) → owner h (key g) (key asker) ≡ true
+    → (show (run h) asker g .refused ≡ none) × Tells h (key g) (show (run h) asker g .owners) (show (run h) asker g .parameters)
 show-exact h asker g o =
-    subst (λ (s : Showing). (s .refused ≡ none) × Tells h g (s .owners) (s .parameters)) (sym (show-agree h asker g ∙ told-all)) (
+    subst (λ (s : Showing). (s .refused ≡ none) × Tells h (key g) (s .owners) (s .parameters)) (sym (show-agree h asker g ∙ told-all)) (
       refl,
       record {
-        rises = rising-keep (owner h g) (rising (namedIn h .owners)) (rising-rising (namedIn h .owners));
-        owns = owners-owning h g;
+        rises = rising-keep (owner h (key g)) (rising (namedIn h .owners)) (rising-rising (namedIn h .owners));
+        owns = owners-owning h (key g);
         has = refl;
       },
     )
   where
     taken : showRefusal (world h) asker g ≡ none
-    taken = let k = owner-known h g asker o in cc (k .0, k .1, k .2)
+    taken = let k = known h g asker o in cc (k .0, k .1, k .2)
 
-    told-all : showIn h asker g ≡ record { refused = none; owners = ownersIn (world h) (namedIn h .owners) g; parameters = world h .parameters g }
+    told-all : showIn h asker g ≡ record { refused = none; owners = ownersIn (world h) (namedIn h .owners) (key g); parameters = world h .parameters (key g) }
     told-all = λ i. record {
       refused = taken i;
-      owners = cond (accepted (taken i)) (ownersIn (world h) (namedIn h .owners) g) [];
-      parameters = cond (accepted (taken i)) (world h .parameters g) noParameters;
+      owners = cond (accepted (taken i)) (ownersIn (world h) (namedIn h .owners) (key g)) [];
+      parameters = cond (accepted (taken i)) (world h .parameters (key g)) noParameters;
     }
 
 -- only one list is exact
-pub exactly-unique : (h : History) (g : ℕ) (a b : List Listed) → Exactly h g a → Exactly h g b → a ≡ b
+pub exactly-unique : (h : History) (g : ℕ) (a b : List Entry) → Exactly h g a → Exactly h g b → a ≡ b
 exactly-unique h g a b p q = same-entries a b (p .rises) (q .rises) (λ x. p .says x ∙ sym (q .says x))

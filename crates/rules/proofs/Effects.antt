@@ -9,7 +9,7 @@ use borrow.Author.Tests.{eqb-true}
 use Rattle.rules.specs.Lists.{any, present, mem}
 use Rattle.rules.specs.Entries.{find, keepKeys, alter}
 use Rattle.rules.specs.Effect.{Effect}
-use Rattle.rules.specs.World.{after}
+use Rattle.rules.specs.Change.{after}
 use Rattle.rules.specs.Ledger.{Group, Pair, samePair, Ledger, group, ownersOf, parametersOf, view, ownersAfter, groupAfter, product, apply}
 use Rattle.rules.proofs.Tests.{split, clash, and-false}
 use Rattle.rules.proofs.ListLaws.{any-append, eqb-same}
@@ -41,7 +41,8 @@ any-product g r (x ∷ gs) rs = split (eqb g x)
 
 -- ---- what the ledger says after a step is the step's effect on what it said before ----
 
-pub group-after : (l : Ledger) (e : Effect) (g : ℕ) → group (apply l e) g ≡ cond (mem g (e .makes)) (some (groupAfter e (group l g))) (cond (not (e .removes g)) (group l g) none)
+pub group-after : (l : Ledger) (e : Effect) (g : ℕ)
+    → group (apply l e) g ≡ cond (mem g (e .makes)) (some (groupAfter e (group l g))) (cond (not (e .removes g)) (group l g) none)
 group-after l e g =
     cc (
       find-puts eqb eqb-true eqb-same (keepKeys (λ g. not (e .removes g)) (l .groups)) (e .makes) (λ g. groupAfter e (group l g)) g,
@@ -70,7 +71,8 @@ parameters-after l e g = split (mem g (e .makes))
 pub mark-after : (l : Ledger) (e : Effect) → Single samePair (l .pairs) → (g r : ℕ) → find samePair (apply l e .pairs) (g, r) ≡ after (view l) e .mark g r
 mark-after l e s g r =
     cc (
-      find-puts samePair pair-sound pair-itself (alter (λ (k : Pair). e .turns (k .0) (k .1)) (l .pairs)) (product (e .makes) (e .assigns)) (λ k. e .begins) (g, r),
+      find-puts samePair pair-sound pair-itself (alter (λ (k : Pair). e .turns (k .0) (k .1)) (l .pairs))
+          (product (e .makes) (e .assigns)) (λ k. e .begins) (g, r),
       any-product g r (e .makes) (e .assigns),
       find-alter samePair pair-sound pair-itself (λ (k : Pair). e .turns (k .0) (k .1)) (l .pairs) (g, r) s,
     )
@@ -90,5 +92,6 @@ single-groups l e h = single-puts eqb eqb-true eqb-same (keepKeys (λ g. not (e 
     (single-keep eqb eqb-true eqb-same (λ g. not (e .removes g)) (l .groups) h)
 
 pub single-pairs : (l : Ledger) (e : Effect) → Single samePair (l .pairs) → Single samePair (apply l e .pairs)
-single-pairs l e h = single-puts samePair pair-sound pair-itself (alter (λ (k : Pair). e .turns (k .0) (k .1)) (l .pairs)) (product (e .makes) (e .assigns)) (λ k. e .begins)
+single-pairs l e h = single-puts samePair pair-sound pair-itself (alter (λ (k : Pair). e .turns (k .0) (k .1)) (l .pairs))
+    (product (e .makes) (e .assigns)) (λ k. e .begins)
     (single-alter samePair pair-sound pair-itself (λ (k : Pair). e .turns (k .0) (k .1)) (l .pairs) h)

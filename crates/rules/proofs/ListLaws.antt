@@ -1,13 +1,13 @@
 -- Lists of numbers: membership, rising lists, lists without repeats, sums.
 use Prim.Native.Nat.{ℕ, suc, _≤_, _<_}
-use mathlib.Core.Path.{_≡_, refl, sym, _∙_, ap}
+use mathlib.Core.Path.{_≡_, refl, sym, _∙_, ap, subst}
 use mathlib.Core.Bool.{Bool, true, false, not, _&&_, _||_}
-use mathlib.Core.List.{List, [], _∷_, _++_}
+use mathlib.Core.List.{List, [], _∷_, _++_, map, map-id}
 use lib.Dec.{eqb, ltb}
 use lib.ListN.{length}
 use native.Mathlib.Omega.{arith}
-use borrow.Author.Tests.{eqb-true, eqb-false, ltb-true, ltb-false, eq-eqb, ne-eqb}
-use Rattle.rules.specs.Lists.{any, all, unique, keep, mem, once, insert, rising, Above, Rising, sum}
+use borrow.Author.Tests.{eqb-true, eqb-false, ltb-true, ltb-false, eq-eqb, ne-eqb, not-true}
+use Rattle.rules.specs.Lists.{any, all, unique, keep, mem, once, insertBy, inOrder, rising, Above, Rising, sum}
 use Rattle.rules.proofs.Tests.{split, clash, and-false, and-true, and-in, and-l, and-r, or-assoc, or-swap, or-l, or-r}
 
 pub mem-keep : (p : ℕ → Bool) (x : ℕ) (l : List ℕ) → mem x (keep p l) ≡ (mem x l && p x)
@@ -32,6 +32,44 @@ eqb-flip x y = split (eqb x y)
     (λ e. e ∙ sym (eq-eqb y x (sym (eqb-true x y e))))
     (λ e. e ∙ sym (ne-eqb y x (λ q. eqb-false x y e (sym q))))
 
+-- ---- lists without repeats ----
+
+module _ {K : Type 0} (same : K → K → Bool) where
+  abbrev pub Apart : List K → Type 0
+  Apart [] = Unit {0}
+  Apart (k ∷ ks) = (any (same k) ks ≡ false) × Apart ks
+
+abbrev pub Once : List ℕ → Type 0
+Once = Apart eqb
+
+pub mem-once : (z : ℕ) (l : List ℕ) → mem z (once l) ≡ mem z l
+mem-once z [] = refl
+mem-once z (x ∷ l) = split (eqb z x)
+    (λ e. cc)
+    (λ e. cc (mem-keep (λ y. not (eqb x y)) z (once l), mem-once z l, eqb-flip z x, and-true (mem z l)))
+
+once-keep : (p : ℕ → Bool) (l : List ℕ) → Once l → Once (keep p l)
+once-keep p [] o = tt
+once-keep p (x ∷ l) o = split (p x)
+    (λ e. rw e (cc (mem-keep p x l), once-keep p l (o .1)))
+    (λ e. rw e (once-keep p l (o .1)))
+
+pub once-once : (l : List ℕ) → Once (once l)
+once-once [] = tt
+once-once (x ∷ l) = (
+  cc (mem-keep (λ y. not (eqb x y)) x (once l), eqb-same x, and-false (mem x (once l))),
+  once-keep (λ y. not (eqb x y)) (once l) (once-once l),
+)
+
+-- a list without repeats is the same again
+keep-other : (x : ℕ) (l : List ℕ) → mem x l ≡ false → keep (λ y. not (eqb x y)) l ≡ l
+keep-other x [] h = refl
+keep-other x (y ∷ l) h = split (eqb x y) (λ e. clash (cc)) (λ e. cc (keep-other x l (cc)))
+
+once-same : (l : List ℕ) → Once l → once l ≡ l
+once-same [] o = refl
+once-same (x ∷ l) o = cc (once-same l (o .1), keep-other x l (o .0))
+
 -- ---- rising lists ----
 
 pub above-trans : (x y : ℕ) (l : List ℕ) → x < y → Above y l → Above x l
@@ -50,40 +88,68 @@ rising-keep p (y ∷ l) r = split (p y)
     (λ e. rw e (above-keep p y l (r .0), rising-keep p l (r .1)))
     (λ e. rw e (rising-keep p l (r .1)))
 
-above-insert : (x y : ℕ) (l : List ℕ) → y < x → Above y l → Above y (insert x l)
-above-insert x y [] h a = (h, tt)
-above-insert x y (z ∷ l) h a = split (ltb x z)
-    (λ e. rw e (h, a))
-    (λ e. rw e (split (eqb x z)
-    (λ f. rw f a)
-    (λ f. rw f (a .0, above-insert x y l h (a .1)))))
+module _ {A : Type 0} (f : A → ℕ) where
+  above-insert : (y : ℕ) (x : A) (l : List A) → y < f x → Above y (map f l) → Above y (map f (insertBy f x l))
+  above-insert y x [] h a = (h, tt)
+  above-insert y x (z ∷ l) h a = split (ltb (f x) (f z))
+      (λ e. rw e (h, a))
+      (λ e. rw e (a .0, above-insert y x l h (a .1)))
 
-rising-insert : (x : ℕ) (l : List ℕ) → Rising l → Rising (insert x l)
-rising-insert x [] r = (tt, tt)
-rising-insert x (z ∷ l) r = split (ltb x z)
-    (λ e. rw e ((ltb-true x z e, above-trans x z l (ltb-true x z e) (r .0)), r))
-    (λ e. rw e (split (eqb x z)
-    (λ f. rw f r)
-    (λ f. rw f (above-insert x z l (lt x z (ltb-false x z e) (eqb-false x z f)) (r .0), rising-insert x l (r .1)))))
-  where
-    lt : (x z : ℕ) → z ≤ x → (x ≡ z → ⊥) → z < x
-    lt x z h n = omega arith
+  rising-insert : (x : A) (l : List A) → mem (f x) (map f l) ≡ false → Rising (map f l) → Rising (map f (insertBy f x l))
+  rising-insert x [] n r = (tt, tt)
+  rising-insert x (z ∷ l) n r = split (ltb (f x) (f z))
+      (λ e. let h = ltb-true (f x) (f z) e in rw e ((h, above-trans (f x) (f z) (map f l) h (r .0)), r))
+      (λ e. split (eqb (f x) (f z))
+      (λ q. clash (cc))
+      (λ q. rw e (
+        above-insert (f z) x l (below (f x) (f z) (ltb-false (f x) (f z) e) (eqb-false (f x) (f z) q)) (r .0),
+        rising-insert x l (cc) (r .1),
+      )))
+    where
+      below : (x z : ℕ) → z ≤ x → (x ≡ z → ⊥) → z < x
+      below x z h n = omega arith
+
+  mem-insert : (n : ℕ) (x : A) (l : List A) → mem n (map f (insertBy f x l)) ≡ (eqb n (f x) || mem n (map f l))
+  mem-insert n x [] = refl
+  mem-insert n x (z ∷ l) = split (ltb (f x) (f z))
+      (λ e. cc)
+      (λ e. cc (mem-insert n x l, or-swap (eqb n (f z)) (eqb n (f x)) (mem n (map f l))))
+
+  pub length-insert : (x : A) (l : List A) → length (insertBy f x l) ≡ suc (length l)
+  length-insert x [] = refl
+  length-insert x (z ∷ l) = split (ltb (f x) (f z)) (λ e. cc) (λ e. cc (length-insert x l))
+
+  pub mem-order : (n : ℕ) (l : List A) → mem n (map f (inOrder f l)) ≡ mem n (map f l)
+  mem-order n [] = refl
+  mem-order n (x ∷ l) = mem-insert n x (inOrder f l) ∙ ap (λ (b : Bool). eqb n (f x) || b) (mem-order n l)
+
+  pub length-order : (l : List A) → length (inOrder f l) ≡ length l
+  length-order [] = refl
+  length-order (x ∷ l) = length-insert x (inOrder f l) ∙ ap suc (length-order l)
+
+  -- where no number stands twice, each is below all that follow
+  pub rising-order : (l : List A) → Once (map f l) → Rising (map f (inOrder f l))
+  rising-order [] o = tt
+  rising-order (x ∷ l) o = rising-insert x (inOrder f l) (mem-order (f x) l ∙ o .0) (rising-order l (o .1))
+
+module _ {A B : Type 0} (h : A → B) (f : B → ℕ) where
+  pub map-insert : (x : A) (l : List A) → map h (insertBy (λ a. f (h a)) x l) ≡ insertBy f (h x) (map h l)
+  map-insert x [] = refl
+  map-insert x (y ∷ l) = split (ltb (f (h x)) (f (h y))) (λ e. cc) (λ e. cc (map-insert x l))
+
+  pub map-order : (l : List A) → map h (inOrder (λ a. f (h a)) l) ≡ inOrder f (map h l)
+  map-order [] = refl
+  map-order (x ∷ l) = map-insert x (inOrder (λ a. f (h a)) l) ∙ ap (insertBy f (h x)) (map-order l)
+
+-- a number that is not yet there is put in
+pub rising-new : (x : ℕ) (l : List ℕ) → mem x l ≡ false → rising (x ∷ l) ≡ insertBy (λ n. n) x (rising l)
+rising-new x l e = ap (λ (k : List ℕ). insertBy (λ n. n) x (inOrder (λ n. n) k)) (keep-other x (once l) (mem-once x l ∙ e))
 
 pub rising-rising : (l : List ℕ) → Rising (rising l)
-rising-rising [] = tt
-rising-rising (x ∷ l) = rising-insert x (rising l) (rising-rising l)
-
-pub mem-insert : (z x : ℕ) (l : List ℕ) → mem z (insert x l) ≡ (eqb z x || mem z l)
-mem-insert z x [] = refl
-mem-insert z x (y ∷ l) = split (ltb x y)
-    (λ e. cc)
-    (λ e. split (eqb x y)
-    (λ f. split (eqb z y) (λ g. cc (eqb-true x y f)) (λ g. cc (eqb-true x y f)))
-    (λ f. cc (mem-insert z x l, or-swap (eqb z y) (eqb z x) (mem z l))))
+rising-rising l = subst Rising (map-id (rising l)) (rising-order (λ n. n) (once l) (subst Once (sym (map-id (once l))) (once-once l)))
 
 pub mem-rising : (z : ℕ) (l : List ℕ) → mem z (rising l) ≡ mem z l
-mem-rising z [] = refl
-mem-rising z (x ∷ l) = cc (mem-insert z x (rising l), mem-rising z l)
+mem-rising z l = ap (mem z) (sym (map-id (rising l))) ∙ mem-order (λ n. n) z (once l) ∙ ap (mem z) (map-id (once l)) ∙ mem-once z l
 
 above-mem : (x : ℕ) (l : List ℕ) → Above x l → mem x l ≡ false
 above-mem x [] a = refl
@@ -119,48 +185,12 @@ same-members (x ∷ a) (y ∷ b) r s h =
         (λ e. cc (eqb-true z x e, above-mem x a (r .0), above-mem y b (s .0)))
         (λ e. cc (h z))
 
--- ---- lists without repeats ----
-
-module _ {K : Type 0} (same : K → K → Bool) where
-  abbrev pub Apart : List K → Type 0
-  Apart [] = Unit {0}
-  Apart (k ∷ ks) = (any (same k) ks ≡ false) × Apart ks
-
-abbrev pub Once : List ℕ → Type 0
-Once = Apart eqb
-
-length-insert : (x : ℕ) (l : List ℕ) → mem x l ≡ false → length (insert x l) ≡ suc (length l)
-length-insert x [] h = refl
-length-insert x (y ∷ l) h = split (ltb x y)
-    (λ e. cc)
-    (λ e. split (eqb x y) (λ f. clash (cc)) (λ f. cc (length-insert x l (cc))))
-
 pub length-rising : (l : List ℕ) → Once l → length (rising l) ≡ length l
-length-rising [] o = refl
-length-rising (x ∷ l) o = cc (length-insert x (rising l) (mem-rising x l ∙ o .0), length-rising l (o .1))
+length-rising l o = length-order (λ n. n) (once l) ∙ ap length (once-same l o)
 
 pub once-rising : (l : List ℕ) → Rising l → Once l
 once-rising [] r = tt
 once-rising (x ∷ l) r = (above-mem x l (r .0), once-rising l (r .1))
-
-pub mem-once : (z : ℕ) (l : List ℕ) → mem z (once l) ≡ mem z l
-mem-once z [] = refl
-mem-once z (x ∷ l) = split (eqb z x)
-    (λ e. cc)
-    (λ e. cc (mem-keep (λ y. not (eqb x y)) z (once l), mem-once z l, eqb-flip z x, and-true (mem z l)))
-
-once-keep : (p : ℕ → Bool) (l : List ℕ) → Once l → Once (keep p l)
-once-keep p [] o = tt
-once-keep p (x ∷ l) o = split (p x)
-    (λ e. rw e (cc (mem-keep p x l), once-keep p l (o .1)))
-    (λ e. rw e (once-keep p l (o .1)))
-
-pub once-once : (l : List ℕ) → Once (once l)
-once-once [] = tt
-once-once (x ∷ l) = (
-  cc (mem-keep (λ y. not (eqb x y)) x (once l), eqb-same x, and-false (mem x (once l))),
-  once-keep (λ y. not (eqb x y)) (once l) (once-once l),
-)
 
 -- ---- sums ----
 
@@ -200,6 +230,13 @@ all-in p x (y ∷ l) h e = split (eqb x y)
 pub unique-once : (l : List ℕ) → Once l → unique l ≡ true
 unique-once [] o = refl
 unique-once (x ∷ l) o = cc (unique-once l (o .1), o .0)
+
+pub once-unique : (l : List ℕ) → unique l ≡ true → Once l
+once-unique [] u = tt
+once-unique (x ∷ l) u = (
+  not-true (mem x l) (and-l (not (mem x l)) (unique l) u),
+  once-unique l (and-r (not (mem x l)) (unique l) u),
+)
 
 pub length-keep : {A : Type 0} (p : A → Bool) (l : List A) → length (keep p l) ≤ length l
 length-keep p [] = omega arith

@@ -9,7 +9,7 @@ use lib.ListN.{length, take}
 use native.Mathlib.Omega.{arith}
 use borrow.Author.Tests.{eqb-true, eqb-false, ltb-false, leb-false, le-leb, lt-ltb}
 use Rattle.rules.specs.Lists.{any, mem, once}
-use Rattle.rules.specs.Number.{Identity, Numbers, count, used, key, numbers, numbersIn, wide, badIdentity, badList, untaken}
+use Rattle.rules.specs.Number.{Identity, Numbers, count, used, key, numbers, numbersIn, wide, wideKey, badIdentity, badList, untaken}
 use Rattle.rules.specs.Parameters.{Parameters, over, replaced, tooLarge, badName, badParameters}
 use Rattle.rules.specs.Mark.{Mark, waiting, T1, begun, ticked}
 use Rattle.rules.specs.Written.{goodOwners, maxOwners, goodMark}
@@ -17,6 +17,14 @@ use Rattle.rules.proofs.Tests.{split, clash, and-in, or-l, or-r, not-in
 use Rattle.rules.proofs.ListLaws.{mem-once, once-once, unique-once, all-mem, length-once, any-no}
 
 -- ---- numbers ----
+
+-- a number is in range where its key is
+pub key-wide : (n : ℕ) → wideKey (key n) ≡ wide n
+key-wide n = refl
+
+-- the key of an identity in a list
+abbrev keyOf : Identity → ℕ
+keyOf i = key (i .ssi)
 
 -- the forms that carry an SSI
 ssi-narrow : (i : Identity) → badIdentity i ≡ false → eqb (i .form) 0 ≡ false → wide (i .ssi) ≡ false
@@ -26,21 +34,22 @@ ssi-narrow i b f = cc (or-r (ltb 2 (i .form)) (ltb 0 (i .form) && wide (i .ssi))
     positive n h = omega arith
 
 keys-narrow : (l : List Identity) → any badIdentity l ≡ false → any (λ (i : Identity). eqb (i .form) 0) l ≡ false
-    → (x : ℕ) → mem x (map key l) ≡ true → wide x ≡ false
+    → (x : ℕ) → mem x (map keyOf l) ≡ true → wideKey x ≡ false
 keys-narrow [] b f x e = clash (sym e)
-keys-narrow (i ∷ l) b f x e = split (eqb x (key i))
-    (λ q. ap wide (eqb-true x (key i) q) ∙ ssi-narrow i (any-no badIdentity i l b .0) (any-no (λ (i : Identity). eqb (i .form) 0) i l f .0))
+keys-narrow (i ∷ l) b f x e = split (eqb x (keyOf i))
+    (λ q. ap wideKey (eqb-true x (keyOf i) q) ∙ key-wide (i .ssi) ∙ ssi-narrow i (any-no badIdentity i l b .0) (any-no (λ (i : Identity). eqb (i .form) 0) i l f .0))
     (λ q. keys-narrow l (any-no badIdentity i l b .1) (any-no (λ (i : Identity). eqb (i .form) 0) i l f .1) x (cc))
 
 -- a list that passed both has numbers of 24 bits
-pub numbers-narrow : (n : Option Numbers) → badList n ≡ false → untaken n ≡ false → (x : ℕ) → mem x (numbersIn n) ≡ true → wide x ≡ false
+pub numbers-narrow : (n : Option Numbers) → badList n ≡ false → untaken n ≡ false → (x : ℕ) → mem x (numbersIn n) ≡ true → wideKey x ≡ false
 unfolding numbers
 numbers-narrow none b u x e = clash (sym e)
 numbers-narrow (some n) b u x e =
-    keys-narrow (used n) (or-r (ltb 10 (n .code)) (any badIdentity (used n)) b) (or-r (eqb (n .code) 1) (any (λ (i : Identity). eqb (i .form) 0) (used n)) u)
-    x (sym (mem-once x (map key (used n))) ∙ e)
+    keys-narrow (used n) (or-r (ltb 10 (n .code)) (any badIdentity (used n)) b)
+    (or-r (eqb (n .code) 1) (any (λ (i : Identity). eqb (i .form) 0) (used n)) u)
+    x (sym (mem-once x (map keyOf (used n))) ∙ e)
 
-length-used : (n : ℕ) (l : List Identity) → length (map key (take n l)) ≤ n
+length-used : (n : ℕ) (l : List Identity) → length (map keyOf (take n l)) ≤ n
 length-used zero l = omega arith
 length-used (suc n) [] = omega arith
 length-used (suc n) (i ∷ l) = let h = length-used n l in omega arith
@@ -51,7 +60,7 @@ unfolding numbers
 numbers-few none b = omega arith
 numbers-few (some n) b =
     let h = few (n .code) (ltb-false 10 (n .code) (or-l (ltb 10 (n .code)) (any badIdentity (used n)) b)) in
-    let a = length-once (map key (used n)) in
+    let a = length-once (map keyOf (used n)) in
     let u = length-used (count (n .code)) (n .places) in
     omega arith
   where
@@ -60,16 +69,16 @@ numbers-few (some n) b =
 
 -- ---- owners ----
 
-pub owners-good : (asker : ℕ) (l : List ℕ) → wide asker ≡ false → length l ≤ 10 → ((x : ℕ) → mem x l ≡ true → wide x ≡ false)
+pub owners-good : (asker : ℕ) (l : List ℕ) → wideKey asker ≡ false → length l ≤ 10 → ((x : ℕ) → mem x l ≡ true → wideKey x ≡ false)
     → goodOwners (once (asker ∷ l)) ≡ true
 owners-good asker l a h n =
     and-in (lt-ltb 0 (length (once (asker ∷ l))) (omega arith))
     (and-in (le-leb (length (once (asker ∷ l))) maxOwners (let k = length-once (asker ∷ l) in omega arith))
     (and-in (unique-once (once (asker ∷ l)) (once-once (asker ∷ l)))
-    (all-mem (λ a. not (wide a)) (once (asker ∷ l)) (λ x e. not-in (wide x) (each x (sym (mem-once x (asker ∷ l)) ∙ e))))))
+    (all-mem (λ a. not (wideKey a)) (once (asker ∷ l)) (λ x e. not-in (wideKey x) (each x (sym (mem-once x (asker ∷ l)) ∙ e))))))
   where
-    each : (x : ℕ) → mem x (asker ∷ l) ≡ true → wide x ≡ false
-    each x e = split (eqb x asker) (λ f. ap wide (eqb-true x asker f) ∙ a) (λ f. n x (cc))
+    each : (x : ℕ) → mem x (asker ∷ l) ≡ true → wideKey x ≡ false
+    each x e = split (eqb x asker) (λ f. ap wideKey (eqb-true x asker f) ∙ a) (λ f. n x (cc))
 
 -- ---- parameters ----
 

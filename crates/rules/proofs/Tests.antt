@@ -27,12 +27,6 @@ or-swap true false c = refl
 or-swap false true c = refl
 or-swap false false c = refl
 
-pub or-flip : (a b : Bool) → (a || b) ≡ (b || a)
-or-flip true true = refl
-or-flip true false = refl
-or-flip false true = refl
-or-flip false false = refl
-
 pub and-in : {a b : Bool} → a ≡ true → b ≡ true → (a && b) ≡ true
 and-in p q = cc
 

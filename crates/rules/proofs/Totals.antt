@@ -11,7 +11,8 @@ use Rattle.rules.specs.Lists.{keep, present, turned, mem, rising, sum}
 use Rattle.rules.specs.Entries.{find}
 use Rattle.rules.specs.Mark.{Mark}
 use Rattle.rules.specs.Effect.{Effect}
-use Rattle.rules.specs.World.{World, after, membersIn, groupTotal, pairTotal}
+use Rattle.rules.specs.World.{World, membersIn, groupTotal, pairTotal}
+use Rattle.rules.specs.Change.{after}
 use Rattle.rules.specs.Ledger.{Group, Pair, samePair, Ledger, group, ownersOf, view, radiosOf, members}
 use Rattle.rules.specs.History.{Named, named}
 use Rattle.rules.proofs.Tests.{split, clash, and-false}

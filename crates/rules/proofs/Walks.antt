@@ -28,10 +28,6 @@ module _ {A : Type 0} where
   join-append f [] b = refl
   join-append f (x ∷ a) b = cc (join-append f a b, append-assoc (f x) (join f a) (join f b))
 
-  pub length-join : (f : ℕ → List A) (l : List ℕ) → length (join f l) ≡ sum (λ x. length (f x)) l
-  length-join f [] = refl
-  length-join f (x ∷ l) = length-append (f x) (join f l) ∙ ap (λ (n : ℕ). length (f x) + n) (length-join f l)
-
   -- what passes everywhere keeps all
   pub keep-all : (l : List A) → keep (λ x. true) l ≡ l
   keep-all [] = refl
@@ -70,21 +66,9 @@ module _ {K X : Type 0} where
   alter-all [] = refl
   alter-all (e ∷ l) = λ i. (e .0, e .1) ∷ alter-all l i
 
--- ---- finding and putting past what has another key ----
+-- ---- putting one key after the other ----
 
 module _ {K X : Type 0} (same : K → K → Bool) where
-  pub find-past : (a b : List (K × X)) (k : K) → present (find same a k) ≡ false → find same (a ++ b) k ≡ find same b k
-  find-past [] b k h = refl
-  find-past (e ∷ a) b k h = split (same k (e .0)) (λ q. clash (cc)) (λ q. cc (find-past a b k (cc)))
-
-  pub put-past : (a b : List (K × X)) (k : K) (v : X) → present (find same a k) ≡ false → put same (a ++ b) k v ≡ a ++ put same b k v
-  put-past [] b k v h = refl
-  put-past (e ∷ a) b k v h = split (same k (e .0)) (λ q. clash (cc)) (λ q. cc (put-past a b k v (cc)))
-
-  pub put-end : (l : List (K × X)) (k : K) (v : X) → present (find same l k) ≡ false → put same l k v ≡ l ++ ((k, v) ∷ [])
-  put-end [] k v h = refl
-  put-end (e ∷ l) k v h = split (same k (e .0)) (λ q. clash (cc)) (λ q. cc (put-end l k v (cc)))
-
   -- each key's value made from what is found at its turn
   abbrev pub putsNow : List (K × X) → List K → (Option X → X) → List (K × X)
   putsNow l [] F = l
@@ -127,7 +111,8 @@ module _ {K X : Type 0} (same : K → K → Bool) (sound : (a b : K) → same a 
       (λ q. rw (rest ks (a .0), length-put l k (f k), q) (omega arith))
       (λ q. rw (rest ks (a .0), length-put l k (f k), q) (omega arith))
     where
-      rest : (ks : List K) → any (same k) ks ≡ false → keep (λ j. not (present (find same (put same l k (f k)) j))) ks ≡ keep (λ j. not (present (find same l j))) ks
+      rest : (ks : List K) → any (same k) ks ≡ false
+          → keep (λ j. not (present (find same (put same l k (f k)) j))) ks ≡ keep (λ j. not (present (find same l j))) ks
       rest [] h = refl
       rest (j ∷ js) h = split (same k j)
           (λ q. clash (cc))
@@ -164,7 +149,8 @@ row-apart g (r ∷ rs) rest o h a = (
 
 pub product-apart : (gs rs : List ℕ) → Once gs → Once rs → Apart samePair (product gs rs)
 product-apart [] rs o p = tt
-product-apart (g ∷ gs) rs o p = row-apart g rs (product gs rs) p (λ r. any-product g r gs rs ∙ ap (λ (b : Bool). b && mem r rs) (o .0)) (product-apart gs rs (o .1) p)
+product-apart (g ∷ gs) rs o p = row-apart g rs (product gs rs) p
+    (λ r. any-product g r gs rs ∙ ap (λ (b : Bool). b && mem r rs) (o .0)) (product-apart gs rs (o .1) p)
 
 -- what passes among all pairs, counted group by group
 pub length-product : (p : Pair → Bool) (gs rs : List ℕ) → length (keep p (product gs rs)) ≡ sum (λ g. length (keep (λ r. p (g, r)) rs)) gs

@@ -10,7 +10,7 @@ use borrow.Author.Tests.{eqb-true, ltb-false, leb-true, le-leb, not-true}
 use Rattle.refusal.specs.declared.Refusal.{Refusal}
 use Rattle.rules.specs.Lists.{any, all, present, turned, mem}
 use Rattle.rules.specs.Entries.{find, distinct}
-use Rattle.rules.specs.Number.{wide, badList, untaken, numbersIn}
+use Rattle.rules.specs.Number.{key, wide, wideKey, badList, untaken, numbersIn}
 use Rattle.rules.specs.Parameters.{noParameters, replaced, badParameters}
 use Rattle.rules.specs.Mark.{Mark, fresh, confirmed, ticked}
 use Rattle.rules.specs.Order.{Define, Delete, Answer, Step, define, delete, answer, tick, defineGroups, deleteGroups, leaves}
@@ -24,7 +24,7 @@ use Rattle.rules.proofs.Tests.{split, clash, and-in, and-l, and-r, or-l
 use Rattle.rules.proofs.ListLaws.{eqb-same, length-keep}
 use Rattle.rules.proofs.EntryLaws.{Single, single-distinct, distinct-single, found-all, all-found, length-alter}
 use Rattle.rules.proofs.Effects.{pair-sound, pair-itself, group-after, mark-after, single-groups, single-pairs}
-use Rattle.rules.proofs.Ranges.{numbers-narrow, numbers-few, owners-good, replaced-good, begun-good, ticked-good}
+use Rattle.rules.proofs.Ranges.{key-wide, numbers-narrow, numbers-few, owners-good, replaced-good, begun-good, ticked-good}
 
 -- ---- the form, by what is found ----
 
@@ -34,7 +34,7 @@ pub record Form (l : Ledger) : Type 0 where
   pub few-groups : length (l .groups) ≤ maxGroups
   pub few-pairs : length (l .pairs) ≤ maxPairs
   pub groups : (g : ℕ) (x : Group) → group l g ≡ some x → goodGroup (g, x) ≡ true
-  pub marks : (g r : ℕ) (m : Mark) → find samePair (l .pairs) (g, r) ≡ some m → (wide r ≡ false) × (goodMark m ≡ true)
+  pub marks : (g r : ℕ) (m : Mark) → find samePair (l .pairs) (g, r) ≡ some m → (wideKey r ≡ false) × (goodMark m ≡ true)
   pub there : (g r : ℕ) → present (find samePair (l .pairs) (g, r)) ≡ true → present (group l g) ≡ true
 
 pub form-written : (l : Ledger) → Form l → written l ≡ true
@@ -46,7 +46,7 @@ form-written l f =
     (and-in (all-found eqb eqb-true eqb-same goodGroup (l .groups) (f .groups-once) (f .groups))
     (all-found samePair pair-sound pair-itself (goodPair l) (l .pairs) (f .pairs-once)
     (λ k m e. let q = f .marks (k .0) (k .1) m e in
-    and-in (not-in (wide (k .1)) (q .0)) (and-in (q .1) (f .there (k .0) (k .1) (cc)))))))))
+    and-in (not-in (wideKey (k .1)) (q .0)) (and-in (q .1) (f .there (k .0) (k .1) (cc)))))))))
 
 pub written-form : (l : Ledger) → written l ≡ true → Form l
 written-form l h =
@@ -67,8 +67,8 @@ written-form l h =
       few-pairs = leb-true (length (l .pairs)) maxPairs (and-l fewPairs (onceGroups && (oncePairs && (goodGroups && goodPairs))) h₁);
       groups = found-all eqb eqb-true goodGroup (l .groups) (and-l goodGroups goodPairs h₄);
       marks = λ g r m e. let q = pair g r m (and-r goodGroups goodPairs h₄) e in (
-        not-true (wide r) (and-l (not (wide r)) (goodMark m && present (group l g)) q),
-        and-l (goodMark m) (present (group l g)) (and-r (not (wide r)) (goodMark m && present (group l g)) q),
+        not-true (wideKey r) (and-l (not (wideKey r)) (goodMark m && present (group l g)) q),
+        and-l (goodMark m) (present (group l g)) (and-r (not (wideKey r)) (goodMark m && present (group l g)) q),
       );
       there = λ g r e. stands g r (and-r goodGroups goodPairs h₄) (find samePair (l .pairs) (g, r)) refl e;
     }
@@ -79,7 +79,7 @@ written-form l h =
     stands : (g r : ℕ) → all (goodPair l) (l .pairs) ≡ true → (o : Option Mark) → find samePair (l .pairs) (g, r) ≡ o → present o ≡ true → present (group l g) ≡ true
     stands g r a none q e = clash (sym e)
     stands g r a (some m) q e =
-        and-r (goodMark m) (present (group l g)) (and-r (not (wide r)) (goodMark m && present (group l g)) (pair g r m a q))
+        and-r (goodMark m) (present (group l g)) (and-r (not (wideKey r)) (goodMark m && present (group l g)) (pair g r m a q))
 
 -- ---- what an effect needs so that the form stays ----
 
@@ -97,15 +97,15 @@ good-option l f g = go (group l g) (f .groups g)
     go : (o : Option Group) → ((x : Group) → o ≡ some x → goodGroup (g, x) ≡ true) → GoodOption o
     go none h = tt
     go (some x) h =
-        let k = and-r (not (wide g)) (goodOwners (x .owners) && not (badParameters (x .parameters))) (h x refl) in (
+        let k = and-r (not (wideKey g)) (goodOwners (x .owners) && not (badParameters (x .parameters))) (h x refl) in (
           and-l (goodOwners (x .owners)) (not (badParameters (x .parameters))) k,
           not-true (badParameters (x .parameters)) (and-r (goodOwners (x .owners)) (not (badParameters (x .parameters))) k),
         )
 
 record Fit (l : Ledger) (e : Effect) : Type 0 where
-  makes : (g : ℕ) → mem g (e .makes) ≡ true → (wide g ≡ false) × (goodOwners (e .owners) ≡ true)
+  makes : (g : ℕ) → mem g (e .makes) ≡ true → (wideKey g ≡ false) × (goodOwners (e .owners) ≡ true)
   parameters : badParameters (e .parameters) ≡ false
-  assigns : (r : ℕ) → mem r (e .assigns) ≡ true → wide r ≡ false
+  assigns : (r : ℕ) → mem r (e .assigns) ≡ true → wideKey r ≡ false
   begins : goodMark (e .begins) ≡ true
   turns : (g r : ℕ) (m m′ : Mark) → goodMark m ≡ true → e .turns g r m ≡ some m′ → goodMark m′ ≡ true
   removes : (g r : ℕ) (m : Mark) → e .removes g ≡ true → e .turns g r m ≡ none
@@ -135,7 +135,7 @@ form-apply l e f p = record {
     made : (g : ℕ) (x : Group) → mem g (e .makes) ≡ true → some (groupAfter e (group l g)) ≡ some x → goodGroup (g, x) ≡ true
     made g x a k =
         let q : groupAfter e (group l g) ≡ x = cc in
-        sym (ap (λ (y : Group). goodGroup (g, y)) q) ∙ and-in (not-in (wide g) (p .makes g a .0)) (and-in
+        sym (ap (λ (y : Group). goodGroup (g, y)) q) ∙ and-in (not-in (wideKey g) (p .makes g a .0)) (and-in
         (owners (group l g) (good-option l f g))
         (not-in (badParameters (replaced (e .parameters) (parametersOf (group l g)))) (replaced-fit e (group l g) (p .parameters) (good-option l f g))))
       where
@@ -146,7 +146,7 @@ form-apply l e f p = record {
     set : (m : Mark) → some (e .begins) ≡ some m → goodMark m ≡ true
     set m k = let q : e .begins ≡ m = cc in sym (ap goodMark q) ∙ p .begins
 
-    turn : (g r : ℕ) (m : Mark) (o : Option Mark) → find samePair (l .pairs) (g, r) ≡ o → turned (e .turns g r) o ≡ some m → (wide r ≡ false) × (goodMark m ≡ true)
+    turn : (g r : ℕ) (m : Mark) (o : Option Mark) → find samePair (l .pairs) (g, r) ≡ o → turned (e .turns g r) o ≡ some m → (wideKey r ≡ false) × (goodMark m ≡ true)
     turn g r m none q k = clash (cc)
     turn g r m (some m₀) q k = (f .marks g r m₀ q .0, p .turns g r m₀ m (f .marks g r m₀ q .1) k)
 
@@ -163,12 +163,12 @@ passed : (r : Refusal) (b : Bool) (k : Option Refusal) → cond b (some r) k ≡
 passed r true k e = clash (cc)
 passed r false k e = (refl, e)
 
-define-fit : (l : Ledger) (o : Define) (room : ℕ) → refused l (define o room) ≡ none → Fit l (effect (define o room))
+define-fit : (l : Ledger) (o : Define) (room : ℕ) → refused l (define o room) ≡ none → Fit l (effect (view l) (define o room))
 define-fit l o room e =
-    let l′ = apply l (effect (define o room)) in
+    let l′ = apply l (effect (view l) (define o room)) in
     let bad = passed _ (wide (o .asker) || (refuses (o .judged) || badValues o)) _ e in
     let form = passed _ (o .call || (untaken (o .groups) || (untaken (o .owners) || untaken (o .radios)))) _ (bad .1) in
-    let owned = passed _ (any (λ g. view l .stands g && not (view l .owner g (o .asker))) (defineGroups o)) _ (form .1) in
+    let owned = passed _ (any (λ g. view l .stands g && not (view l .owner g (key (o .asker)))) (defineGroups o)) _ (form .1) in
     let full = passed _ (ltb maxGroups (length (l′ .groups)) || ltb maxPairs (length (l′ .pairs))) _ (owned .1) in
     let asker = or-l (wide (o .asker)) (refuses (o .judged) || badValues o) (bad .0) in
     let b₁ = or-r (refuses (o .judged)) (badValues o) (or-r (wide (o .asker)) (refuses (o .judged) || badValues o) (bad .0)) in
@@ -181,7 +181,7 @@ define-fit l o room e =
       makes = λ g k. (
         numbers-narrow (o .groups) (or-l (badList (o .groups)) (badList (o .owners) || (badList (o .radios) || badParameters (o .parameters))) b₁)
             (or-l (untaken (o .groups)) (untaken (o .owners) || untaken (o .radios)) u₁) g k,
-        owners-good (o .asker) (numbersIn (o .owners)) asker (numbers-few (o .owners) badOwners)
+        owners-good (key (o .asker)) (numbersIn (o .owners)) (key-wide (o .asker) ∙ asker) (numbers-few (o .owners) badOwners)
             (numbers-narrow (o .owners) badOwners (or-l (untaken (o .owners)) (untaken (o .radios)) u₂)),
       );
       parameters = or-r (badList (o .radios)) (badParameters (o .parameters)) b₃;
@@ -209,28 +209,28 @@ only-fit l f removes turns t v = record {
   few-pairs = let h = length-alter (λ (k : Pair). turns (k .0) (k .1)) (l .pairs) in let k = f .few-pairs in omega arith;
 }
 
-delete-fit : (l : Ledger) → Form l → (o : Delete) (room : ℕ) → Fit l (effect (delete o room))
+delete-fit : (l : Ledger) → Form l → (o : Delete) (room : ℕ) → Fit l (effect (view l) (delete o room))
 delete-fit l f o room = only-fit l f (λ g. o .delete && mem g (deleteGroups o)) _
     (λ g r m m′ h k. split (mem g (deleteGroups o) && leaves o r)
     (λ a. clash (cc))
     (λ a. let q : m ≡ m′ = cc in sym (ap goodMark q) ∙ h))
     (λ g r m k. split (o .delete) (λ a. cc) (λ a. clash (cc)))
 
-answer-fit : (l : Ledger) → Form l → (a : Answer) → Fit l (effect (answer a))
+answer-fit : (l : Ledger) → Form l → (a : Answer) → Fit l (effect (view l) (answer a))
 answer-fit l f a = only-fit l f (λ g. false) _
-    (λ g r m m′ h k. split (eqb g (a .group) && eqb r (a .radio))
+    (λ g r m m′ h k. split (eqb g (key (a .group)) && eqb r (key (a .radio)))
     (λ b. split (eqb (a .result) 1)
     (λ c. let q : fresh confirmed ≡ m′ = cc in sym (ap goodMark q))
     (λ c. clash (cc)))
     (λ b. let q : m ≡ m′ = cc in sym (ap goodMark q) ∙ h))
     (λ g r m k. clash (sym k))
 
-tick-fit : (l : Ledger) → Form l → Fit l (effect tick)
+tick-fit : (l : Ledger) → Form l → Fit l (effect (view l) tick)
 tick-fit l f = only-fit l f (λ g. false) _
     (λ g r m m′ h k. let q : ticked m ≡ m′ = cc in sym (ap goodMark q) ∙ ticked-good m h)
     (λ g r m k. clash (sym k))
 
-step-fit : (l : Ledger) → Form l → (s : Step) → refused l s ≡ none → Fit l (effect s)
+step-fit : (l : Ledger) → Form l → (s : Step) → refused l s ≡ none → Fit l (effect (view l) s)
 step-fit l f (define o room) e = define-fit l o room e
 step-fit l f (delete o room) e = delete-fit l f o room
 step-fit l f (answer a) e = answer-fit l f a
@@ -242,7 +242,7 @@ none-refused (some r) e = clash (sym e)
 
 step-form : (l : Ledger) (s : Step) → Form l → Form (step l s)
 step-form l s f = split (accepted (refused l s))
-    (λ e. rw e (form-apply l (effect s) f (step-fit l f s (none-refused (refused l s) e))))
+    (λ e. rw e (form-apply l (effect (view l) s) f (step-fit l f s (none-refused (refused l s) e))))
     (λ e. rw e f)
 
 -- every step keeps the written form, on any ledger that has it

@@ -8,7 +8,7 @@ use Rattle.rules.specs.Lists.{Rising, mem}
 use Rattle.rules.specs.Entries.{find}
 use Rattle.rules.specs.Mark.{Mark}
 use Rattle.rules.specs.Parameters.{Parameters}
-use Rattle.rules.specs.Replies.{Listed}
+use Rattle.rules.specs.Replies.{Entry}
 use Rattle.rules.specs.History.{History, world, owner, mark}
 
 -- what a list must say of a pair: its state, or nothing where there is no pair
@@ -16,13 +16,13 @@ abbrev pub told : Option Mark → Option ℕ
 told none = none
 told (some m) = some (m .state)
 
-abbrev pub radiosListed : List Listed → List ℕ
-radiosListed l = map (λ (e : Listed). e .0) l
+abbrev pub entryRadios : List Entry → List ℕ
+entryRadios l = map (λ (e : Entry). e .0) l
 
 -- the list holds each radio that the accepted steps have put into the group since it was last made and not taken away,
 -- with its state, once, rising, and no other
-pub record Exactly (h : History) (g : ℕ) (l : List Listed) : Type 0 where
-  pub rises : Rising (radiosListed l)
+pub record Exactly (h : History) (g : ℕ) (l : List Entry) : Type 0 where
+  pub rises : Rising (entryRadios l)
   pub says : (r : ℕ) → find eqb l r ≡ told (mark h g r)
 
 -- the owners, rising, and the parameters, as the accepted steps since the group was made give them

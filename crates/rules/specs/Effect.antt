@@ -1,13 +1,15 @@
--- What an accepted step does. It is stated once: World says what it makes of what stands, Ledger what it makes of the lists.
+-- What an accepted step does. It is stated once: Change says what it makes of what stands, Ledger what it makes of the lists.
 use Prim.Native.Nat.{ℕ}
 use mathlib.Core.Bool.{Bool, true, false, cond, not, _&&_}
 use mathlib.Core.List.{List, []}
 use mathlib.Core.Option.{Option, none, some}
 use lib.Dec.{eqb}
 use Rattle.rules.specs.Lists.{present, mem}
+use Rattle.rules.specs.Number.{key}
 use Rattle.rules.specs.Parameters.{Parameters, noParameters}
 use Rattle.rules.specs.Mark.{Mark, noneWanted, fresh, begun, ticked, answered}
 use Rattle.rules.specs.Order.{Step, define, delete, answer, tick, defineGroups, defineRadios, defineOwners, deleteGroups, leaves}
+use Rattle.rules.specs.World.{World}
 
 pub record Effect : Type 0 where
   -- the groups made where they are missing; they take the owners and the parameters
@@ -37,8 +39,9 @@ only removes turns = record {
   turns = turns;
 }
 
-abbrev pub effect : Step → Effect
-effect (define o room) = record {
+-- of a step on what stands before it
+abbrev pub effect : World → Step → Effect
+effect w (define o room) = record {
   makes = defineGroups o;
   keeps = not (present (o .owners));
   owners = defineOwners o;
@@ -48,12 +51,12 @@ effect (define o room) = record {
   removes = λ g. false;
   turns = λ g r m. some m;
 }
-effect (delete o room) = only
+effect w (delete o room) = only
     (λ g. o .delete && mem g (deleteGroups o))
     (λ g r m. cond (mem g (deleteGroups o) && leaves o r) none (some m))
-effect (answer a) = only
+effect w (answer a) = only
     (λ g. false)
-    (λ g r m. cond (eqb g (a .group) && eqb r (a .radio)) (answered (a .result)) (some m))
-effect tick = only
+    (λ g r m. cond (eqb g (key (a .group)) && eqb r (key (a .radio))) (answered (a .result)) (some m))
+effect w tick = only
     (λ g. false)
     (λ g r m. some (ticked m))

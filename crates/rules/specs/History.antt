@@ -4,10 +4,12 @@ use mathlib.Core.Bool.{Bool, cond}
 use mathlib.Core.List.{List, [], _++_}
 use mathlib.Core.Option.{Option}
 use Rattle.refusal.specs.declared.Refusal.{Refusal}
+use Rattle.rules.specs.Number.{key}
 use Rattle.rules.specs.Mark.{Mark}
 use Rattle.rules.specs.Order.{Step}
+use Rattle.rules.specs.World.{World, nothing, membersIn, ownersIn, groupTotal, pairTotal, Tally}
 use Rattle.rules.specs.Effect.{Effect, effect}
-use Rattle.rules.specs.World.{World, nothing, after, membersIn, ownersIn, groupTotal, pairTotal, Tally}
+use Rattle.rules.specs.Change.{after}
 use Rattle.rules.specs.Outgoing.{Outgoing, outgoing}
 use Rattle.rules.specs.Refusals.{accepted, refusal}
 use Rattle.rules.specs.Replies.{Listing, listing, Showing, showing}
@@ -28,10 +30,6 @@ pub record Named : Type 0 where
 abbrev pub named : Effect → Named → Named
 named e n = record { groups = e .makes ++ n .groups; radios = e .assigns ++ n .radios; owners = e .owners ++ n .owners }
 
-abbrev pub namedIn : History → Named
-namedIn start = record { groups = []; radios = []; owners = [] }
-namedIn (h then s) = named (effect s) (namedIn h)
-
 abbrev pub tallyIn : World → Named → Effect → Tally
 tallyIn w n e = record {
   members = membersIn w (n .radios);
@@ -41,16 +39,33 @@ tallyIn w n e = record {
 
 -- ---- what stands ----
 
+-- n: with the numbers that the step itself names
 abbrev pub judge : World → Named → Step → Option Refusal
-judge w n s = refusal w (tallyIn w n (effect s)) s
+judge w n s = refusal w (tallyIn w n (effect w s)) s
 
 -- an accepted step has its effect, a refused one has none
 abbrev pub taken : World → Named → Step → World
-taken w n s = cond (accepted (judge w n s)) (after w (effect s)) w
+taken w n s = cond (accepted (judge w n s)) (after w (effect w s)) w
+
+-- what stands after a history, and the numbers named in it
+pub record Past : Type 0 where
+  pub world : World
+  pub named : Named
+
+abbrev pub onward : Past → Step → Past
+onward p s =
+    let n = named (effect (p .world) s) (p .named) in
+    record { world = taken (p .world) n s; named = n }
+
+abbrev pub past : History → Past
+past start = record { world = nothing; named = record { groups = []; radios = []; owners = [] } }
+past (h then s) = onward (past h) s
 
 abbrev pub world : History → World
-world start = nothing
-world (h then s) = taken (world h) (namedIn (h then s)) s
+world h = past h .world
+
+abbrev pub namedIn : History → Named
+namedIn h = past h .named
 
 abbrev pub stands : History → ℕ → Bool
 stands h = world h .stands
@@ -73,10 +88,12 @@ refusalIn h s = judge (world h) (namedIn (h then s)) s
 
 -- what goes out for it: nothing on a refusal
 abbrev pub sentIn : History → Step → List Outgoing
-sentIn h s = cond (accepted (refusalIn h s)) (outgoing (world h) (tallyIn (world h) (namedIn (h then s)) (effect s)) s) []
+sentIn h s = cond (accepted (refusalIn h s))
+    (outgoing (world h) (tallyIn (world h) (namedIn (h then s)) (effect (world h) s)) s)
+    []
 
 abbrev pub listIn : History → ℕ → ℕ → ℕ → Listing
-listIn h asker g room = listing (world h) asker g (radiosIn h g) room
+listIn h asker g room = listing (world h) asker g (radiosIn h (key g)) room
 
 abbrev pub showIn : History → ℕ → ℕ → Showing
-showIn h asker g = showing (world h) asker g (ownersIn (world h) (namedIn h .owners) g)
+showIn h asker g = showing (world h) asker g (ownersIn (world h) (namedIn h .owners) (key g))

@@ -8,6 +8,7 @@ use lib.ListN.{length}
 use Rattle.refusal.specs.declared.Refusal.{Refusal}
 use Rattle.rules.specs.Lists.{present, join, mem, rising}
 use Rattle.rules.specs.Entries.{find, puts, keepKeys, alter}
+use Rattle.rules.specs.Number.{key}
 use Rattle.rules.specs.Parameters.{Parameters, noParameters, replaced}
 use Rattle.rules.specs.Mark.{Mark}
 use Rattle.rules.specs.Order.{Step}
@@ -91,18 +92,18 @@ tally l e = record { members = members l; groups = length (apply l e .groups); p
 
 -- none where the step is accepted
 abbrev pub refused : Ledger → Step → Option Refusal
-refused l s = refusal (view l) (tally l (effect s)) s
+refused l s = refusal (view l) (tally l (effect (view l) s)) s
 
 -- a refusal changes nothing
 abbrev pub step : Ledger → Step → Ledger
-step l s = cond (accepted (refused l s)) (apply l (effect s)) l
+step l s = cond (accepted (refused l s)) (apply l (effect (view l) s)) l
 
 -- what goes out: nothing on a refusal
 abbrev pub sent : Ledger → Step → List Outgoing
-sent l s = cond (accepted (refused l s)) (outgoing (view l) (tally l (effect s)) s) []
+sent l s = cond (accepted (refused l s)) (outgoing (view l) (tally l (effect (view l) s)) s) []
 
 abbrev pub list : Ledger → ℕ → ℕ → ℕ → Listing
-list l asker g room = listing (view l) asker g (members l g) room
+list l asker g room = listing (view l) asker g (members l (key g)) room
 
 abbrev pub show : Ledger → ℕ → ℕ → Showing
-show l asker g = showing (view l) asker g (rising (ownersOf (group l g)))
+show l asker g = showing (view l) asker g (rising (ownersOf (group l (key g))))

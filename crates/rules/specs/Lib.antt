@@ -5,8 +5,9 @@ pub mod Parameters
 pub mod Mark
 pub mod Order
 pub mod Recorded
-pub mod Effect
 pub mod World
+pub mod Effect
+pub mod Change
 pub mod Outgoing
 pub mod Refusals
 pub mod Replies

@@ -35,6 +35,16 @@ module _ {A : Type 0} where
   join f [] = []
   join f (x ∷ l) = f x ++ join f l
 
+  -- put before the first whose number by f is above its own
+  abbrev pub insertBy : (A → ℕ) → A → List A → List A
+  insertBy f x [] = x ∷ []
+  insertBy f x (y ∷ l) = cond (ltb (f x) (f y)) (x ∷ y ∷ l) (y ∷ insertBy f x l)
+
+  -- in rising order of their numbers: put in one by one, from the last
+  abbrev pub inOrder : (A → ℕ) → List A → List A
+  inOrder f [] = []
+  inOrder f (x ∷ l) = insertBy f x (inOrder f l)
+
 -- the number is in the list
 abbrev pub mem : ℕ → List ℕ → Bool
 mem x = any (eqb x)
@@ -49,15 +59,9 @@ abbrev pub once : List ℕ → List ℕ
 once [] = []
 once (x ∷ l) = x ∷ keep (λ y. not (eqb x y)) (once l)
 
--- a number put into a rising list, once
-abbrev pub insert : ℕ → List ℕ → List ℕ
-insert x [] = x ∷ []
-insert x (y ∷ l) = cond (ltb x y) (x ∷ y ∷ l) (cond (eqb x y) (y ∷ l) (y ∷ insert x l))
-
 -- the numbers of a list, each once, rising
 abbrev pub rising : List ℕ → List ℕ
-rising [] = []
-rising (x ∷ l) = insert x (rising l)
+rising l = inOrder (λ n. n) (once l)
 
 -- x is below all of the list
 abbrev pub Above : ℕ → List ℕ → Type 0

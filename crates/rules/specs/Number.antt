@@ -26,24 +26,28 @@ count code = cond (eqb code 0) 1 (cond (eqb code 1) 2 code)
 abbrev pub used : Numbers → List Identity
 used n = take (count (n .code)) (n .places)
 
--- "For now identities are the same when their SSIs are; the extension plays no part"
-abbrev pub key : Identity → ℕ
-key i = i .ssi
+-- a number handed over, as the ledger knows it: "For now identities are the same when their SSIs are; the extension plays no part"
+abbrev pub key : ℕ → ℕ
+key n = n
 
--- "A number listed twice counts once, at its first place"
+-- the keys of a list: "A number listed twice counts once, at its first place"
 unfoldable pub numbers : Numbers → List ℕ
-numbers n = once (map key (used n))
+numbers n = once (map (λ (i : Identity). key (i .ssi)) (used n))
 
--- the numbers of a list that may be missing
+-- those of a list that may be missing
 abbrev pub numbersIn : Option Numbers → List ℕ
 numbersIn none = []
 numbersIn (some n) = numbers n
 
--- ---- what is refused in a list ----
+-- ---- what is out of range ----
 
--- above 24 bits
+-- a number handed over, above 24 bits
 abbrev pub wide : ℕ → Bool
 wide n = leb (2 ^ 24) n
+
+-- a key that stands, above 24 bits
+abbrev pub wideKey : ℕ → Bool
+wideKey k = leb (2 ^ 24) k
 
 -- the reserved form, or an SSI in use above 24 bits
 abbrev pub badIdentity : Identity → Bool

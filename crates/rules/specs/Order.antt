@@ -1,11 +1,11 @@
--- The orders of document 01: define, delete, answer and tick.
+-- The orders of document 01: define, delete, answer and tick. They hold numbers as handed over.
 use Prim.Native.Nat.{ℕ}
 use mathlib.Core.Bool.{Bool, true, cond, _&&_, _||_}
 use mathlib.Core.List.{List, _∷_}
 use mathlib.Core.Option.{Option}
 use Rattle.layout.specs.declared.Judged.{Judged}
 use Rattle.rules.specs.Lists.{present, mem, once}
-use Rattle.rules.specs.Number.{Numbers, numbers, numbersIn}
+use Rattle.rules.specs.Number.{Numbers, key, numbers, numbersIn}
 use Rattle.rules.specs.Parameters.{Parameters}
 
 -- judged: what the frame half says of the DEFINE record. call: call related.
@@ -40,7 +40,7 @@ pub data Step : Type 0 where
   answer : Answer → Step
   tick : Step
 
--- ---- the numbers that an order names ----
+-- ---- the keys that an order names ----
 
 abbrev pub defineGroups : Define → List ℕ
 defineGroups o = numbersIn (o .groups)
@@ -51,7 +51,7 @@ defineRadios o = numbersIn (o .radios)
 
 -- "asker plus those listed"
 abbrev pub defineOwners : Define → List ℕ
-defineOwners o = once (o .asker ∷ numbersIn (o .owners))
+defineOwners o = once (key (o .asker) ∷ numbersIn (o .owners))
 
 abbrev pub deleteGroups : Delete → List ℕ
 deleteGroups o = numbers (o .groups)

@@ -12,7 +12,7 @@ use Rattle.refusal.specs.declared.Refusal.the-variants.{BadOrder, FormNotTaken,
 use Rattle.layout.specs.declared.Judged.{Judged}
 use Rattle.layout.specs.declared.Judged.the-variants.{Writable, Refused}
 use Rattle.rules.specs.Lists.{any, present}
-use Rattle.rules.specs.Number.{wide, badList, untaken}
+use Rattle.rules.specs.Number.{key, wide, badList, untaken}
 use Rattle.rules.specs.Parameters.{badParameters}
 use Rattle.rules.specs.Mark.{open?}
 use Rattle.rules.specs.Order.{Define, Step, define, delete, answer, tick, defineGroups, deleteGroups}
@@ -54,7 +54,7 @@ abbrev pub tests : World → Tally → Step → List (Refusal × Bool)
 tests w t (define o room) =
     (BadOrder, wide (o .asker) || (refuses (o .judged) || badValues o))
     ∷ (FormNotTaken, o .call || (untaken (o .groups) || (untaken (o .owners) || untaken (o .radios))))
-    ∷ (NotOwner, any (λ g. w .stands g && not (w .owner g (o .asker))) (defineGroups o))
+    ∷ (NotOwner, any (λ g. w .stands g && not (w .owner g (key (o .asker)))) (defineGroups o))
     ∷ (Full, ltb maxGroups (t .groups) || ltb maxPairs (t .pairs))
     ∷ (NoRoom, ltb room (length (outgoing w t (define o room))))
     ∷ []
@@ -62,27 +62,27 @@ tests w t (delete o room) =
     (BadOrder, wide (o .asker) || (badList (some (o .groups)) || (badList (o .radios) || (present (o .radios) && not (o .deassign)))))
     ∷ (FormNotTaken, untaken (some (o .groups)) || untaken (o .radios))
     ∷ (NoSuchGroup, any (λ g. not (w .stands g)) (deleteGroups o))
-    ∷ (NotOwner, any (λ g. not (w .owner g (o .asker))) (deleteGroups o))
+    ∷ (NotOwner, any (λ g. not (w .owner g (key (o .asker)))) (deleteGroups o))
     ∷ (NothingToDo, not (o .delete) && not (o .deassign))
     ∷ (NoRoom, ltb room (length (outgoing w t (delete o room))))
     ∷ []
 tests w t (answer a) =
     (BadOrder, wide (a .radio) || (wide (a .group) || (eqb (a .result) 0 || ltb 4 (a .result))))
-    ∷ (NoSuchGroup, not (w .stands (a .group)))
-    ∷ (NotOpen, not (open? (w .mark (a .group) (a .radio))))
+    ∷ (NoSuchGroup, not (w .stands (key (a .group))))
+    ∷ (NotOpen, not (open? (w .mark (key (a .group)) (key (a .radio)))))
     ∷ []
 tests w t tick = []
 
 abbrev pub refusal : World → Tally → Step → Option Refusal
 refusal w t s = first (tests w t s)
 
--- ---- list and show: an asker, a group ----
+-- ---- list and show: an asker, a group, as handed over ----
 
 abbrev pub askTests : World → ℕ → ℕ → List (Refusal × Bool)
 askTests w asker g =
     (BadOrder, wide asker || wide g)
-    ∷ (NoSuchGroup, not (w .stands g))
-    ∷ (NotOwner, not (w .owner g asker))
+    ∷ (NoSuchGroup, not (w .stands (key g)))
+    ∷ (NotOwner, not (w .owner (key g) (key asker)))
     ∷ []
 
 abbrev pub showRefusal : World → ℕ → ℕ → Option Refusal

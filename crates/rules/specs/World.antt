@@ -1,13 +1,12 @@
 -- What stands at a point of the history, one group, one owner, one pair at a time; and what is counted over it.
 use Prim.Native.Nat.{ℕ}
-use mathlib.Core.Bool.{Bool, false, cond, not, _&&_, _||_}
+use mathlib.Core.Bool.{Bool, false}
 use mathlib.Core.List.{List}
-use mathlib.Core.Option.{Option, none, some}
+use mathlib.Core.Option.{Option, none}
 use lib.ListN.{length}
-use Rattle.rules.specs.Lists.{keep, present, turned, mem, rising, sum}
-use Rattle.rules.specs.Parameters.{Parameters, noParameters, replaced}
+use Rattle.rules.specs.Lists.{keep, present, rising, sum}
+use Rattle.rules.specs.Parameters.{Parameters, noParameters}
 use Rattle.rules.specs.Mark.{Mark}
-use Rattle.rules.specs.Effect.{Effect}
 
 -- stands g: the group is there. owner g a: a owns it. mark g r: the pair's mark, none where there is no pair
 pub record World : Type 0 where
@@ -18,21 +17,6 @@ pub record World : Type 0 where
 
 abbrev pub nothing : World
 nothing = record { stands = λ g. false; owner = λ g a. false; parameters = λ g. noParameters; mark = λ g r. none }
-
--- what an accepted step makes of each fact
-abbrev pub after : World → Effect → World
-after w e = record {
-  stands = λ g. mem g (e .makes) || (not (e .removes g) && w .stands g);
-  owner = λ g a. cond (mem g (e .makes))
-      (cond (w .stands g && e .keeps) (w .owner g a) (mem a (e .owners)))
-      (not (e .removes g) && w .owner g a);
-  parameters = λ g. cond (mem g (e .makes))
-      (replaced (e .parameters) (w .parameters g))
-      (cond (e .removes g) noParameters (w .parameters g));
-  mark = λ g r. cond (mem g (e .makes) && mem r (e .assigns))
-      (some (e .begins))
-      (turned (e .turns g r) (w .mark g r));
-}
 
 -- ---- lists and totals, over the numbers named so far ----
 

@@ -7,7 +7,7 @@ use lib.Dec.{eqb, ltb, leb}
 use lib.ListN.{length}
 use Rattle.rules.specs.Lists.{all, unique, present}
 use Rattle.rules.specs.Entries.{distinct}
-use Rattle.rules.specs.Number.{wide}
+use Rattle.rules.specs.Number.{wideKey}
 use Rattle.rules.specs.Parameters.{badParameters}
 use Rattle.rules.specs.Mark.{Mark, waiting, unheard, T1}
 use Rattle.rules.specs.Refusals.{maxGroups, maxPairs}
@@ -18,17 +18,17 @@ abbrev pub maxOwners : ℕ
 maxOwners = 11
 
 abbrev pub goodOwners : List ℕ → Bool
-goodOwners owners = ltb 0 (length owners) && (leb (length owners) maxOwners && (unique owners && all (λ a. not (wide a)) owners))
+goodOwners owners = ltb 0 (length owners) && (leb (length owners) maxOwners && (unique owners && all (λ a. not (wideKey a)) owners))
 
 abbrev pub goodGroup : ℕ × Group → Bool
-goodGroup e = not (wide (e .0)) && (goodOwners (e .1 .owners) && not (badParameters (e .1 .parameters)))
+goodGroup e = not (wideKey (e .0)) && (goodOwners (e .1 .owners) && not (badParameters (e .1 .parameters)))
 
 -- a waiting pair has 0 to 29 ticks, any other none
 abbrev pub goodMark : Mark → Bool
 goodMark m = cond (eqb (m .state) waiting) (ltb (m .ticks) T1) (leb (m .state) unheard && eqb (m .ticks) 0)
 
 abbrev pub goodPair : Ledger → Pair × Mark → Bool
-goodPair l e = not (wide (e .0 .1)) && (goodMark (e .1) && present (group l (e .0 .0)))
+goodPair l e = not (wideKey (e .0 .1)) && (goodMark (e .1) && present (group l (e .0 .0)))
 
 abbrev pub written : Ledger → Bool
 written l =

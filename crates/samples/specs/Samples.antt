@@ -18,7 +18,7 @@ use Rattle.layout.specs.Frame.{places, readingOf, writtenOf, outputOf}
 use Rattle.rules.specs.Order.{Step, define, delete, answer, tick}
 use Rattle.rules.specs.Recorded.{setReference, assignment, numbersAt, defineOf}
 use Rattle.rules.specs.Refusals.{replyNumber}
-use Rattle.rules.specs.Replies.{Listed, Listing}
+use Rattle.rules.specs.Replies.{Entry, Listing}
 use Rattle.rules.specs.History.{History, start, _then_, refusalIn, listIn}
 use Rattle.rules.specs.Ledger as ledger
 use Rattle.rules.specs.Run.{run}
@@ -26,7 +26,7 @@ use Rattle.rules.specs.Run.{run}
 pub data Sample : Type 0 where
   taken : Kind → ℕ → List ℕ → List ℕ → Sample  -- so many bits in these bytes are this record, which goes on with 0; and it is written so
   refused : Kind → ℕ → List ℕ → ℕ → Sample  -- so many bits in these bytes are refused with this number
-  ordered : History → Step → ℕ → List Listed → Sample  -- after this history the step gets this number (0: accepted), and asker 1's list of group 5 is then this
+  ordered : History → Step → ℕ → List Entry → Sample  -- after this history the step gets this number (0: accepted), and asker 1's list of group 5 is then this
 
 -- ---- records and orders that the table names
 -- an identity takes four places: its form, SNA, SSI and extension
@@ -121,14 +121,14 @@ abbrev writes : ℕ → Written → Bool
 writes n (written.Bits m) = eqb m n
 writes n (written.Refused r) = false
 
-abbrev sameEntries : List Listed → List Listed → Bool
+abbrev sameEntries : List Entry → List Entry → Bool
 sameEntries [] [] = true
 sameEntries [] (y ∷ ys) = false
 sameEntries (x ∷ xs) [] = false
 sameEntries (x ∷ xs) (y ∷ ys) = eqb (x .0) (y .0) && eqb (x .1) (y .1) && sameEntries xs ys
 
 -- an accepted list with these entries
-abbrev lists : List Listed → Listing → Bool
+abbrev lists : List Entry → Listing → Bool
 lists entries reply = eqb (replyNumber (reply .refused)) 0 && sameEntries (reply .entries) entries
 
 -- the reader's answer, and the writer's into that many zero bytes

@@ -3,3 +3,4 @@ pub mod Lists
 pub mod Storage
 pub mod Places
 pub mod Form
+pub mod Named

@@ -1,8 +1,4 @@
--- The lent storage, and the ledger that its contents say. Only the placing is ours.
---     head     the count of groups, the count of pairs
---     groups   a row a group, 36 words: the number; set reference, acknowledged call, broadcast, class, lifetime, temporary,
---              each one up, 0 where absent; the name's length, 0 where absent, and 16 letters; the owners' count and 11 owners
---     pairs    a row a pair, 4 words: group, radio, state, ticks
+-- The lent storage, and the ledger that its contents say. Only the placing is ours; which word says what is in rows/specs/Layout.antt.
 -- Rows past the counts say nothing; words of a group's row past its counts are 0.
 use Prim.Native.Nat.{ℕ, zero, suc, _-_}
 use mathlib.Core.List.{List, [], _∷_, _++_, map}
@@ -10,6 +6,8 @@ use mathlib.Core.Option.{Option, none, some}
 use lib.ListN.{getD, length, take, drop, replicate}
 use Rattle.rules.specs.Mark.{Mark}
 use Rattle.rules.specs.Ledger.{Group, Pair, Ledger}
+use Rattle.rules.specs.Written.{maxOwners}
+use Rattle.rows.specs.Layout as row
 use Rattle.order.specs.Walks.{left}
 use Rattle.store.specs.Lists.{onto}
 use Rattle.order.specs.Row.{heldOf, lettersOf}
@@ -25,7 +23,10 @@ contents head groups pairs = record { head = head; groups = groups; pairs = pair
 -- ---- a pair's row ----
 
 abbrev pub pairOf : List ℕ → Pair × Mark
-pairOf row = ((getD row 0 0, getD row 1 0), record { state = getD row 2 0; ticks = getD row 3 0 })
+pairOf words = (
+  (getD words row.pairGroup 0, getD words row.pairRadio 0),
+  record { state = getD words row.pairState 0; ticks = getD words row.pairTicks 0 },
+)
 
 abbrev pub pairRow : Pair × Mark → List ℕ
 pairRow e = e .0 .0 ∷ e .0 .1 ∷ e .1 .state ∷ e .1 .ticks ∷ []
@@ -53,32 +54,33 @@ nameOf (suc n) letters = some (take (suc n) letters)
 
 -- the words for the letters, and those for the owners
 abbrev pub letters : List ℕ → List ℕ
-letters row = take 16 (drop 8 row)
+letters words = take row.maxLetters (drop row.firstLetter words)
 
 abbrev pub owners : List ℕ → List ℕ
-owners row = drop 25 row
+owners words = drop row.firstOwner words
 
 unfoldable pub groupOf : List ℕ → ℕ × Group
-groupOf row = (
-  getD row 0 0,
+groupOf words = (
+  getD words row.keyWord 0,
   record {
-    owners = take (getD row 24 0) (owners row);
+    owners = take (getD words row.ownerCount 0) (owners words);
     parameters = record {
-      setReference = valueOf (getD row 1 0);
-      acknowledgedCall = valueOf (getD row 2 0);
-      broadcast = valueOf (getD row 3 0);
-      name = nameOf (getD row 7 0) (letters row);
-      class = valueOf (getD row 4 0);
-      lifetime = valueOf (getD row 5 0);
-      temporary = valueOf (getD row 6 0);
+      setReference = valueOf (getD words row.referenceWord 0);
+      acknowledgedCall = valueOf (getD words row.callWord 0);
+      broadcast = valueOf (getD words row.broadcastWord 0);
+      name = nameOf (getD words row.nameLength 0) (letters words);
+      class = valueOf (getD words row.classWord 0);
+      lifetime = valueOf (getD words row.lifetimeWord 0);
+      temporary = valueOf (getD words row.temporaryWord 0);
     };
   },
 )
 
 unfoldable pub groupRow : ℕ × Group → List ℕ
 groupRow e = let p = e .1 .parameters in
-    e .0 ∷ heldOf (p .setReference) ∷ heldOf (p .acknowledgedCall) ∷ heldOf (p .broadcast) ∷ heldOf (p .class) ∷ heldOf (p .lifetime) ∷ heldOf (p .temporary)
-    ∷ (counted 16 (lettersOf (p .name)) ++ counted 11 (e .1 .owners))
+    e .0 ∷ heldOf (p .setReference) ∷ heldOf (p .acknowledgedCall) ∷ heldOf (p .broadcast)
+    ∷ heldOf (p .class) ∷ heldOf (p .lifetime) ∷ heldOf (p .temporary)
+    ∷ (counted row.maxLetters (lettersOf (p .name)) ++ counted maxOwners (e .1 .owners))
 
 abbrev pub groupsOf : ℕ → List (List ℕ) → List (ℕ × Group)
 groupsOf n rows = map groupOf (take n rows)

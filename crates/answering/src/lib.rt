@@ -1,0 +1,159 @@
+// The orders that only reply: an empty ledger, a radio's answer, a tick.
+use order::Groups;
+use order::Gtsi;
+use order::Itsi;
+use order::Radios;
+use order::keys::group_key;
+use order::keys::one_group;
+use order::keys::one_radio;
+use order::keys::radio_key;
+use order::lists::wide;
+use refusal::Refusal;
+use replies::Reply;
+use rows::GROUP_COUNT;
+use rows::GROUP_WORDS;
+use rows::MAX_LISTED;
+use rows::PAIR_COUNT;
+use rows::PAIR_WORDS;
+use store::Found;
+use store::form::roomy;
+use store::form::written;
+use store::places::find;
+use store::places::group_place;
+use store::places::stands;
+use turning::Turn;
+use turning::turn_pairs;
+ghost use mathlib.Core.Path.{_≡_};
+ghost use Rattle.rules.specs.Order.{tick};
+ghost use Rattle.order.specs.Steps.{answerStep};
+ghost use Rattle.store.specs.Storage.{contents};
+ghost use Rattle.replies.specs.Orders.{Begins, Judges, Replies};
+ghost use Rattle.answering.specs.Answers.{answerTurn, foundOpen};
+
+// The states in which an assignment is open.
+const WAITING: u64 = 1;
+
+const UNHEARD: u64 = 3;
+
+// The most that a result can be.
+const LAST_RESULT: u64 = 4;
+
+// The result by which a radio confirms.
+const ACCEPTED: u64 = 1;
+
+// An empty ledger over any contents.
+pub fn empty(head: &mut [u64], groups: &[[u64; GROUP_WORDS]], pairs: &[[u64; PAIR_WORDS]]) -> Reply
+    ensures { λ r. ⌜ Begins (contents (now (head .entry)) (now (groups .entry)) (now (pairs .entry)))
+        (contents (now (head .exit)) (now (groups .entry)) (now (pairs .entry))) r ⌝ }
+{
+    if !roomy(head, groups, pairs) {
+        return Reply::Refused(Refusal::NotWritten);
+    }
+    head[GROUP_COUNT] = 0;
+    head[PAIR_COUNT] = 0;
+    Reply::Done
+}
+
+// One tick: every waiting pair counts one.
+pub fn tick(head: &[u64], groups: &[[u64; GROUP_WORDS]], pairs: &mut [[u64; PAIR_WORDS]]) -> Reply
+    ensures { λ r. ⌜ Replies tick (contents (now (head .entry)) (now (groups .entry)) (now (pairs .entry)))
+        (contents (now (head .entry)) (now (groups .entry)) (now (pairs .exit))) r ⌝ }
+{
+    if !written(head, groups, pairs) {
+        return Reply::Refused(Refusal::NotWritten);
+    }
+    let count = head[PAIR_COUNT];
+    let no_groups = Groups {
+        count: 0,
+        key: [0; MAX_LISTED],
+    };
+    let no_radios = Radios {
+        count: 0,
+        key: [0; MAX_LISTED],
+    };
+    turn_pairs(pairs, count as usize, Turn::Tick, no_groups, no_radios);
+    Reply::Done
+}
+
+// Whether a pair is found, and open.
+fn open(found: Found) -> bool
+    ensures { λ r. ⌜ r ≡ foundOpen found ⌝ }
+{
+    let Found::Held(state) = found else {
+        return false;
+    };
+    (state == WAITING) | (state == UNHEARD)
+}
+
+// What an answer is refused with.
+fn answer_fault(
+    head: &[u64],
+    groups: &[[u64; GROUP_WORDS]],
+    pairs: &[[u64; PAIR_WORDS]],
+    radio: Itsi,
+    group: Gtsi,
+    result: u64,
+) -> Reply
+    ensures { λ r. ⌜ Judges (contents (now (head .entry)) (now (groups .entry)) (now (pairs .entry))) (answerStep radio group result) r ⌝ }
+{
+    if !written(head, groups, pairs) {
+        return Reply::Refused(Refusal::NotWritten);
+    }
+    let bad = wide(radio.0) | (wide(group.0) | ((result == 0) | (LAST_RESULT < result)));
+    if bad {
+        return Reply::Refused(Refusal::BadOrder);
+    }
+    let group_count = head[GROUP_COUNT];
+    let pair_count = head[PAIR_COUNT];
+    if !stands(group_place(groups, 0, group_count as usize, group_key(group))) {
+        return Reply::Refused(Refusal::NoSuchGroup);
+    }
+    if !open(find(
+        pairs,
+        pair_count as usize,
+        group_key(group),
+        radio_key(radio),
+    )) {
+        return Reply::Refused(Refusal::NotOpen);
+    }
+    Reply::Done
+}
+
+// Result 1 confirms the pair; 2, 3 and 4 take it away.
+fn answer_turn(result: u64) -> Turn
+    ensures { λ r. ⌜ r ≡ answerTurn result ⌝ }
+{
+    if result == ACCEPTED {
+        return Turn::Confirm;
+    }
+    Turn::Leave
+}
+
+// A radio's answer to its assignment.
+pub fn answer(
+    head: &mut [u64],
+    groups: &[[u64; GROUP_WORDS]],
+    pairs: &mut [[u64; PAIR_WORDS]],
+    radio: Itsi,
+    group: Gtsi,
+    result: u64,
+) -> Reply
+    ensures { λ r. ⌜ Replies (answerStep radio group result) (contents (now (head .entry)) (now (groups .entry)) (now (pairs .entry)))
+        (contents (now (head .exit)) (now (groups .entry)) (now (pairs .exit))) r ⌝ }
+{
+    let fault = answer_fault(head, groups, pairs, radio, group, result);
+    let Reply::Done = fault else {
+        return fault;
+    };
+    let turn = answer_turn(result);
+    let count = head[PAIR_COUNT];
+    let kept = turn_pairs(
+        pairs,
+        count as usize,
+        turn,
+        one_group(group_key(group)),
+        one_radio(radio_key(radio)),
+    );
+    head[PAIR_COUNT] = kept as u64;
+    Reply::Done
+}

@@ -1,0 +1,78 @@
+// A define: the named groups are made or changed, and the listed radios assigned to them.
+mod grouping;
+mod outgoing;
+mod pairing;
+mod refusing;
+
+use crate::grouping::make_groups;
+use crate::outgoing::assign_orders;
+use crate::pairing::set_all;
+use crate::refusing::define_fault;
+use frame::Record;
+use order::Itsi;
+use order::keys::groups_in;
+use order::keys::owners_in;
+use order::keys::radios_in;
+use order::record::first_state;
+use order::record::lists_of;
+use order::row::order_row;
+use replies::Reply;
+use replies::Sent;
+use rows::GROUP_COUNT;
+use rows::GROUP_WORDS;
+use rows::ORDER_WORDS;
+use rows::PAIR_COUNT;
+use rows::PAIR_WORDS;
+ghost use mathlib.Core.Path.{_≡_};
+ghost use Rattle.order.specs.Steps.{defineStep};
+ghost use Rattle.store.specs.Storage.{contents};
+ghost use Rattle.replies.specs.Sending.{Sends};
+
+// A define: the named groups are made or changed, and the listed radios assigned to them.
+pub fn define(
+    head: &mut [u64],
+    groups: &mut [[u64; GROUP_WORDS]],
+    pairs: &mut [[u64; PAIR_WORDS]],
+    asker: Itsi,
+    values: Record,
+    out: &mut [[u64; ORDER_WORDS]],
+) -> Sent
+    ensures { λ r. ⌜ Sends (defineStep asker (values .place)) (now (out .entry)) (now (out .exit))
+        (contents (now (head .entry)) (now (groups .entry)) (now (pairs .entry)))
+        (contents (now (head .exit)) (now (groups .exit)) (now (pairs .exit))) r ⌝ }
+{
+    let place = values.place;
+    let lists = lists_of(place);
+    let owners = lists.owners;
+    let named = groups_in(lists.groups);
+    let radios = radios_in(lists.radios);
+    let fault = define_fault(
+        head,
+        groups,
+        pairs,
+        asker,
+        place,
+        lists,
+        named,
+        radios,
+        out.len(),
+    );
+    if let Reply::Refused(refusal) = fault {
+        return Sent::Refused(refusal);
+    }
+    let group_count = head[GROUP_COUNT];
+    let pair_count = head[PAIR_COUNT];
+    let row = order_row(place, owners_in(asker, owners));
+    let sent = assign_orders(named, radios, out);
+    let made = make_groups(groups, group_count as usize, named, !owners.given, row);
+    let set = set_all(
+        pairs,
+        pair_count as usize,
+        named,
+        radios,
+        first_state(place),
+    );
+    head[GROUP_COUNT] = made as u64;
+    head[PAIR_COUNT] = set as u64;
+    Sent::Orders(sent)
+}

@@ -1,0 +1,191 @@
+// What a define is refused with: each rule over the whole order, in the order of the law.
+use frame::Judged;
+use frame::Kind;
+use frame::PLACES;
+use frame::Record;
+use order::DefineLists;
+use order::GroupKey;
+use order::Groups;
+use order::Itsi;
+use order::RadioKey;
+use order::Radios;
+use order::keys::group_at;
+use order::keys::group_count;
+use order::keys::radio_at;
+use order::keys::radio_count;
+use order::keys::radio_key;
+use order::lists::untaken;
+use order::lists::wide;
+use refusal::Refusal;
+use replies::Reply;
+use rows::GROUP_COUNT;
+use rows::GROUP_WORDS;
+use rows::MAX_GROUPS;
+use rows::MAX_PAIRS;
+use rows::PAIR_COUNT;
+use rows::PAIR_WORDS;
+use store::Standing;
+use store::form::written;
+use store::named::any_group;
+use store::places::group_place;
+use store::places::pair_place;
+use store::places::stands;
+use table::place::CALL_RELATED;
+use table::place::YES;
+ghost use Prim.Native.Nat.{_≤_};
+ghost use lib.ListN.{length};
+ghost use mathlib.Core.Path.{_≡_};
+ghost use Rattle.rules.specs.Number.{numbersIn};
+ghost use Rattle.rules.specs.Refusals.{maxGroups, maxPairs, first, refuses};
+ghost use Rattle.order.specs.Keys.{groupsAs, radiosAs, groupKeys, radioKeys};
+ghost use Rattle.order.specs.Lists.{listOf};
+ghost use Rattle.order.specs.Recorded.{groupList, radioList, listsOf};
+ghost use Rattle.order.specs.Steps.{defineStep};
+ghost use Rattle.store.specs.Storage.{contents, pairsOf, groupsOf};
+ghost use Rattle.replies.specs.Orders.{replyOf, Judges};
+ghost use Rattle.defining.specs.Totals.{newGroups, newRadios, newPairs};
+ghost use Rattle.defining.specs.Tests.{defineForm, defineStand};
+
+// How many of the named groups are not there yet.
+fn new_groups(groups: &[[u64; GROUP_WORDS]], count: usize, named: Groups) -> usize
+    requires { ⌜ count ≤ length (now groups) ⌝ }
+    ensures { λ r. ⌜ (r ≡ newGroups (groupsOf count (now (groups .entry))) (groupKeys named)) × (r ≤ length (groupKeys named)) ⌝ }
+{
+    let end = group_count(named);
+    let mut n: usize = 0;
+    let mut i: usize = 0;
+    while i < end {
+        let group = group_at(named, i);
+        i += 1;
+        if !stands(group_place(groups, 0, count, group)) {
+            n += 1;
+        }
+    }
+    n
+}
+
+// How many of the radios have no pair with a group yet.
+fn new_radios(pairs: &[[u64; PAIR_WORDS]], count: usize, group: GroupKey, radios: Radios) -> usize
+    requires { ⌜ count ≤ length (now pairs) ⌝ }
+    ensures { λ r. ⌜ (r ≡ newRadios (pairsOf count (now (pairs .entry))) (radioKeys radios) (group .0)) × (r ≤ length (radioKeys radios)) ⌝ }
+{
+    let end = radio_count(radios);
+    let mut n: usize = 0;
+    let mut i: usize = 0;
+    while i < end {
+        let radio = radio_at(radios, i);
+        i += 1;
+        if !stands(pair_place(pairs, 0, count, group, radio)) {
+            n += 1;
+        }
+    }
+    n
+}
+
+// How many of the named pairs are not there yet.
+fn new_pairs(pairs: &[[u64; PAIR_WORDS]], count: usize, named: Groups, radios: Radios) -> usize
+    requires { ⌜ (count ≤ length (now pairs)) ⌝ }
+    ensures { λ r. ⌜ (r ≡ newPairs (pairsOf count (now (pairs .entry))) (radioKeys radios) (groupKeys named)) × (r ≤ 100) ⌝ }
+{
+    let end = group_count(named);
+    let mut n: usize = 0;
+    let mut i: usize = 0;
+    while i < end {
+        n += new_radios(pairs, count, group_at(named, i), radios);
+        i += 1;
+    }
+    n
+}
+
+// Whether the writer refuses a record.
+fn refuses(judged: Judged) -> bool
+    ensures { λ r. ⌜ r ≡ refuses judged ⌝ }
+{
+    match judged {
+        Judged::Writable => false,
+        Judged::Refused(_) => true,
+    }
+}
+
+// What a define is refused with for its form.
+fn define_form_fault(asker: Itsi, place: [u32; PLACES], lists: DefineLists) -> Reply
+    requires { ⌜ lists ≡ listsOf place ⌝ }
+    ensures { λ r. ⌜ r ≡ replyOf (first (defineForm asker place)) ⌝ }
+{
+    let bad = wide(asker.0) | refuses(frame::fault(Kind::Define, Record { place }));
+    if bad {
+        return Reply::Refused(Refusal::BadOrder);
+    }
+    let other = (place[CALL_RELATED] == YES)
+        | (untaken(lists.groups) | (untaken(lists.owners) | untaken(lists.radios)));
+    if other {
+        return Reply::Refused(Refusal::FormNotTaken);
+    }
+    Reply::Done
+}
+
+// What a define is refused with for what stands.
+fn define_stand_fault(
+    groups: &[[u64; GROUP_WORDS]],
+    group_count: usize,
+    pairs: &[[u64; PAIR_WORDS]],
+    pair_count: usize,
+    asker: RadioKey,
+    named: Groups,
+    radios: Radios,
+    room: usize,
+) -> Reply
+    requires { ⌜ («group_count» ≤ length (now groups)) × («group_count» ≤ maxGroups) × («pair_count» ≤ length (now pairs)) × («pair_count» ≤ maxPairs) ⌝ }
+    ensures { λ r. ⌜ r ≡ replyOf (first (defineStand (groupsOf «group_count» (now (groups .entry))) (pairsOf «pair_count» (now (pairs .entry)))
+        asker (groupKeys named) (radioKeys radios) room)) ⌝ }
+{
+    if any_group(groups, group_count, named, asker, Standing::Taken) {
+        return Reply::Refused(Refusal::NotOwner);
+    }
+    let group_total = group_count + new_groups(groups, group_count, named);
+    let pair_total = pair_count + new_pairs(pairs, pair_count, named, radios);
+    let full = (MAX_GROUPS < group_total) | (MAX_PAIRS < pair_total);
+    if full {
+        return Reply::Refused(Refusal::Full);
+    }
+    if room < group_count(named) * radio_count(radios) {
+        return Reply::Refused(Refusal::NoRoom);
+    }
+    Reply::Done
+}
+
+// What a define is refused with; `named` and `radios` are the groups and radios of its lists.
+pub fn define_fault(
+    head: &[u64],
+    groups: &[[u64; GROUP_WORDS]],
+    pairs: &[[u64; PAIR_WORDS]],
+    asker: Itsi,
+    place: [u32; PLACES],
+    lists: DefineLists,
+    named: Groups,
+    radios: Radios,
+    room: usize,
+) -> Reply
+    requires { ⌜ (lists ≡ listsOf place) × (named ≡ groupsAs (numbersIn (listOf (groupList place)))) × (radios ≡ radiosAs (numbersIn (listOf (radioList place)))) ⌝ }
+    ensures { λ r. ⌜ Judges (contents (now (head .entry)) (now (groups .entry)) (now (pairs .entry))) (defineStep asker place room) r ⌝ }
+{
+    if !written(head, groups, pairs) {
+        return Reply::Refused(Refusal::NotWritten);
+    }
+    let fault = define_form_fault(asker, place, lists);
+    let Reply::Done = fault else {
+        return fault;
+    };
+    let group_count = head[GROUP_COUNT];
+    let pair_count = head[PAIR_COUNT];
+    define_stand_fault(
+        groups,
+        group_count as usize,
+        pairs,
+        pair_count as usize,
+        radio_key(asker),
+        named,
+        radios,
+        room,
+    )
+}

@@ -1,0 +1,123 @@
+// What a delete is refused with: each rule over the whole order, in the order of the law.
+use crate::outgoing::count_orders;
+use order::Groups;
+use order::Itsi;
+use order::Listed;
+use order::RadioKey;
+use order::Radios;
+use order::keys::radio_key;
+use order::lists::bad_list;
+use order::lists::untaken;
+use order::lists::wide;
+use refusal::Refusal;
+use replies::Reply;
+use rows::GROUP_COUNT;
+use rows::GROUP_WORDS;
+use rows::PAIR_COUNT;
+use rows::PAIR_WORDS;
+use store::Standing;
+use store::form::written;
+use store::named::any_group;
+ghost use Prim.Native.Nat.{_≤_};
+ghost use lib.ListN.{length};
+ghost use mathlib.Core.Bool.{true};
+ghost use mathlib.Core.Path.{_≡_};
+ghost use Rattle.rules.specs.Number.{numbersIn};
+ghost use Rattle.rules.specs.Refusals.{maxPairs, first};
+ghost use Rattle.order.specs.Keys.{groupsAs, radiosAs, groupKeys, radioKeys};
+ghost use Rattle.order.specs.Lists.{listOf};
+ghost use Rattle.order.specs.Steps.{deleteStep};
+ghost use Rattle.store.specs.Storage.{contents, pairsOf, groupsOf};
+ghost use Rattle.replies.specs.Orders.{replyOf, Judges};
+ghost use Rattle.deleting.specs.Deletes.{formTests, standTests};
+
+// What a delete is refused with for its form.
+fn form_fault(asker: Itsi, named: Listed, deassign: bool, radios: Listed) -> Reply
+    ensures { λ r. ⌜ r ≡ replyOf (first (formTests asker named deassign radios)) ⌝ }
+{
+    let bad = wide(asker.0) | (bad_list(named) | (bad_list(radios) | (radios.given & !deassign)));
+    if bad {
+        return Reply::Refused(Refusal::BadOrder);
+    }
+    let other = untaken(named) | untaken(radios);
+    if other {
+        return Reply::Refused(Refusal::FormNotTaken);
+    }
+    Reply::Done
+}
+
+// What a delete is refused with for what stands.
+fn stand_fault(
+    groups: &[[u64; GROUP_WORDS]],
+    group_count: usize,
+    pairs: &[[u64; PAIR_WORDS]],
+    pair_count: usize,
+    asker: RadioKey,
+    named: Groups,
+    remove: bool,
+    deassign: bool,
+    listed: bool,
+    radios: Radios,
+    room: usize,
+) -> Reply
+    requires { ⌜ («pair_count» ≤ length (now pairs)) × («pair_count» ≤ maxPairs) ⌝ }
+    ensures { λ r. ⌜ r ≡ replyOf (first (standTests (groupsOf «group_count» (now (groups .entry))) (pairsOf «pair_count» (now (pairs .entry)))
+        asker (groupKeys named) remove deassign listed (radioKeys radios) room)) ⌝ }
+{
+    if any_group(groups, group_count, named, asker, Standing::Missing) {
+        return Reply::Refused(Refusal::NoSuchGroup);
+    }
+    if any_group(groups, group_count, named, asker, Standing::Foreign) {
+        return Reply::Refused(Refusal::NotOwner);
+    }
+    let idle = !remove & !deassign;
+    if idle {
+        return Reply::Refused(Refusal::NothingToDo);
+    }
+    if room < count_orders(pairs, pair_count, named, deassign, listed, radios) {
+        return Reply::Refused(Refusal::NoRoom);
+    }
+    Reply::Done
+}
+
+// What a delete is refused with; `these` and `those` are the groups and radios of its lists.
+pub fn delete_fault(
+    head: &[u64],
+    groups: &[[u64; GROUP_WORDS]],
+    pairs: &[[u64; PAIR_WORDS]],
+    asker: Itsi,
+    named: Listed,
+    these: Groups,
+    remove: bool,
+    deassign: bool,
+    radios: Listed,
+    those: Radios,
+    room: usize,
+) -> Reply
+    requires { ⌜ (named .given ≡ true) × (these ≡ groupsAs (numbersIn (listOf named))) × (those ≡ radiosAs (numbersIn (listOf radios))) ⌝ }
+    ensures { λ r. ⌜ Judges (contents (now (head .entry)) (now (groups .entry)) (now (pairs .entry)))
+        (deleteStep asker (named .numbers) remove deassign radios room) r ⌝ }
+{
+    if !written(head, groups, pairs) {
+        return Reply::Refused(Refusal::NotWritten);
+    }
+    let fault = form_fault(asker, named, deassign, radios);
+    let Reply::Done = fault else {
+        return fault;
+    };
+    let group_count = head[GROUP_COUNT];
+    let pair_count = head[PAIR_COUNT];
+    stand_fault(
+        groups,
+        group_count as usize,
+        pairs,
+        pair_count as usize,
+        radio_key(asker),
+        these,
+        remove,
+        deassign,
+        radios.given,
+        those,
+        room,
+    )
+}

@@ -1,0 +1,36 @@
+-- The keys of an order's lists, as they are handed on: how many, and they, in ten places (eleven for owners); the words past them are 0.
+use Prim.Native.Nat.{ℕ}
+use mathlib.Core.List.{List, _++_}
+use lib.ListN.{length, take, drop, replicate}
+use Rattle.rules.specs.Written.{maxOwners}
+use Rattle.rows.specs.Layout.{maxListed}
+use Rattle.order.specs.declared.KeyList.{KeyList}
+use Rattle.order.specs.declared.Groups.{Groups}
+use Rattle.order.specs.declared.Radios.{Radios}
+use Rattle.order.specs.declared.Owners.{Owners}
+
+-- keys in n places
+abbrev pub placed : ℕ → List ℕ → List ℕ
+placed n keys = keys ++ drop (length keys) (replicate n 0)
+
+abbrev pub keysAs : List ℕ → KeyList
+keysAs keys = record { count = length keys; key = placed maxListed keys }
+
+abbrev pub groupsAs : List ℕ → Groups
+groupsAs keys = record { count = length keys; key = placed maxListed keys }
+
+abbrev pub radiosAs : List ℕ → Radios
+radiosAs keys = record { count = length keys; key = placed maxListed keys }
+
+abbrev pub ownersAs : List ℕ → Owners
+ownersAs keys = record { count = length keys; key = placed maxOwners keys }
+
+-- what such a list holds
+abbrev pub groupKeys : Groups → List ℕ
+groupKeys g = take (g .count) (g .key)
+
+abbrev pub radioKeys : Radios → List ℕ
+radioKeys r = take (r .count) (r .key)
+
+abbrev pub ownersHeld : Owners → List ℕ
+ownersHeld o = take (o .count) (o .key)

@@ -1,0 +1,193 @@
+// The keys of an order's numbers, made here and nowhere else.
+use crate::GroupKey;
+use crate::Groups;
+use crate::Gtsi;
+use crate::Identity;
+use crate::Itsi;
+use crate::KeyList;
+use crate::Listed;
+use crate::Owners;
+use crate::RadioKey;
+use crate::Radios;
+use crate::lists::member;
+use crate::lists::used_count;
+use rows::MAX_LISTED;
+use rows::MAX_OWNERS;
+use rows::lesser;
+ghost use Prim.Native.Nat.{_≤_};
+ghost use lib.Dec.{eqb};
+ghost use lib.ListN.{length, getD};
+ghost use mathlib.Core.Bool.{not};
+ghost use mathlib.Core.List.{[], _∷_};
+ghost use mathlib.Core.Path.{_≡_};
+ghost use Rattle.rules.specs.Lists.{keep, once};
+ghost use Rattle.rules.specs.Number.{key, numbers, numbersIn};
+ghost use Rattle.rows.specs.Layout.{maxListed};
+ghost use Rattle.order.specs.Keys.{keysAs, groupsAs, radiosAs, ownersAs, groupKeys, radioKeys};
+ghost use Rattle.order.specs.Lists.{numbersAs, listOf};
+
+// A number as the ledger knows it: for now the SSI alone.
+fn key(number: u64) -> u64
+    ensures { λ r. ⌜ r ≡ key number ⌝ }
+{
+    number
+}
+
+// The key of a group's number.
+pub fn group_key(group: Gtsi) -> GroupKey
+    ensures { λ r. ⌜ r .0 ≡ key (group .0) ⌝ }
+{
+    GroupKey(key(group.0))
+}
+
+// The key of a radio's number.
+pub fn radio_key(radio: Itsi) -> RadioKey
+    ensures { λ r. ⌜ r .0 ≡ key (radio .0) ⌝ }
+{
+    RadioKey(key(radio.0))
+}
+
+// The keys of a list, each once, at its first place.
+fn keys_of(code: u64, identity: [Identity; MAX_LISTED]) -> KeyList
+    ensures { λ r. ⌜ r ≡ keysAs (numbers (numbersAs code identity)) ⌝ }
+{
+    let used = used_count(code);
+    let mut keys = [0u64; MAX_LISTED];
+    let mut count: usize = 0;
+    let mut i: usize = 0;
+    while i < used {
+        let one = identity[i];
+        let x = key(one.ssi);
+        i += 1;
+        if !member(&keys[..count], x) {
+            keys[count] = x;
+            count += 1;
+        }
+    }
+    KeyList { count, key: keys }
+}
+
+// The keys of a list, none where it is not given.
+fn keys_in(list: Listed) -> KeyList
+    ensures { λ r. ⌜ r ≡ keysAs (numbersIn (listOf list)) ⌝ }
+{
+    if list.given {
+        let numbers = list.numbers;
+        let identity = numbers.identity;
+        return keys_of(numbers.code, identity);
+    }
+    KeyList {
+        count: 0,
+        key: [0; MAX_LISTED],
+    }
+}
+
+// The groups of a list, none where it is not given.
+pub fn groups_in(list: Listed) -> Groups
+    ensures { λ r. ⌜ r ≡ groupsAs (numbersIn (listOf list)) ⌝ }
+{
+    let keys = keys_in(list);
+    let key = keys.key;
+    Groups {
+        count: keys.count,
+        key,
+    }
+}
+
+// The radios of a list, none where it is not given.
+pub fn radios_in(list: Listed) -> Radios
+    ensures { λ r. ⌜ r ≡ radiosAs (numbersIn (listOf list)) ⌝ }
+{
+    let keys = keys_in(list);
+    let key = keys.key;
+    Radios {
+        count: keys.count,
+        key,
+    }
+}
+
+// One group as a list.
+pub fn one_group(group: GroupKey) -> Groups
+    ensures { λ r. ⌜ r ≡ groupsAs (group .0 ∷ []) ⌝ }
+{
+    Groups {
+        count: 1,
+        key: [group.0, 0, 0, 0, 0, 0, 0, 0, 0, 0],
+    }
+}
+
+// One radio as a list.
+pub fn one_radio(radio: RadioKey) -> Radios
+    ensures { λ r. ⌜ r ≡ radiosAs (radio .0 ∷ []) ⌝ }
+{
+    Radios {
+        count: 1,
+        key: [radio.0, 0, 0, 0, 0, 0, 0, 0, 0, 0],
+    }
+}
+
+// How many groups a list has.
+pub fn group_count(groups: Groups) -> usize
+    ensures { λ r. ⌜ r ≡ length (groupKeys groups) ⌝ }
+{
+    lesser(groups.count, MAX_LISTED)
+}
+
+// How many radios a list has.
+pub fn radio_count(radios: Radios) -> usize
+    ensures { λ r. ⌜ r ≡ length (radioKeys radios) ⌝ }
+{
+    lesser(radios.count, MAX_LISTED)
+}
+
+// A group of a list, key 0 past its end.
+pub fn group_at(groups: Groups, i: usize) -> GroupKey
+    ensures { λ r. ⌜ r .0 ≡ getD (groupKeys groups) i 0 ⌝ }
+{
+    if i < group_count(groups) {
+        let key = groups.key;
+        return GroupKey(key[i]);
+    }
+    GroupKey(0)
+}
+
+// A radio of a list, key 0 past its end.
+pub fn radio_at(radios: Radios, i: usize) -> RadioKey
+    ensures { λ r. ⌜ r .0 ≡ getD (radioKeys radios) i 0 ⌝ }
+{
+    if i < radio_count(radios) {
+        let key = radios.key;
+        return RadioKey(key[i]);
+    }
+    RadioKey(0)
+}
+
+// The asker, then the keys that differ from him.
+fn with_asker(asker: RadioKey, listed: &[u64]) -> Owners
+    requires { ⌜ length (now listed) ≤ maxListed ⌝ }
+    ensures { λ r. ⌜ r ≡ ownersAs (asker .0 ∷ keep (λ y. not (eqb (asker .0) y)) (now (listed .entry))) ⌝ }
+{
+    let mut key = [0u64; MAX_OWNERS];
+    key[0] = asker.0;
+    let mut count: usize = 1;
+    let mut i: usize = 0;
+    while i < listed.len() {
+        let owner = listed[i];
+        i += 1;
+        if asker.0 != owner {
+            key[count] = owner;
+            count += 1;
+        }
+    }
+    Owners { count, key }
+}
+
+// The owners that an order gives: "asker plus those listed".
+pub fn owners_in(asker: Itsi, list: Listed) -> Owners
+    ensures { λ r. ⌜ r ≡ ownersAs (once (key (asker .0) ∷ numbersIn (listOf list))) ⌝ }
+{
+    let keys = keys_in(list);
+    let count = keys.count;
+    let key = keys.key;
+    with_asker(radio_key(asker), &key[..count])
+}

@@ -1,0 +1,100 @@
+// Lists of numbers as an order lends them, and what they are refused for.
+use crate::Fault;
+use crate::Identity;
+use crate::Listed;
+use rows::MAX_LISTED;
+ghost use Prim.Native.Nat.{min};
+ghost use mathlib.Core.Path.{_≡_};
+ghost use Rattle.rules.specs.Lists.{mem, any};
+ghost use Rattle.rules.specs.Number.{count, used, wide, badList, untaken};
+ghost use Rattle.rows.specs.Layout.{maxListed};
+ghost use Rattle.order.specs.Lists.{identityOf, numbersAs, listOf, faulty};
+
+// The first number that does not fit 24 bits.
+const TOO_WIDE: u64 = 0x100_0000;
+
+// Whether a number that is handed over is above 24 bits.
+pub fn wide(number: u64) -> bool
+    ensures { λ r. ⌜ r ≡ wide number ⌝ }
+{
+    TOO_WIDE <= number
+}
+
+// Whether a number is in a list.
+pub fn member(list: &[u64], x: u64) -> bool
+    ensures { λ r. ⌜ r ≡ mem x (now (list .entry)) ⌝ }
+{
+    let mut i: usize = 0;
+    while i < list.len() {
+        if x == list[i] {
+            return true;
+        }
+        i += 1;
+    }
+    false
+}
+
+// How many identities a number type counts.
+pub fn used_count(code: u64) -> usize
+    ensures { λ r. ⌜ r ≡ min (count code) maxListed ⌝ }
+{
+    if code == 0 {
+        return 1;
+    }
+    if code == 1 {
+        return 2;
+    }
+    if MAX_LISTED as u64 <= code {
+        return MAX_LISTED;
+    }
+    code as usize
+}
+
+// Whether an identity has this fault.
+fn is_faulty(identity: Identity, fault: Fault) -> bool
+    ensures { λ r. ⌜ r ≡ faulty fault (identityOf identity) ⌝ }
+{
+    match fault {
+        Fault::Bad => (2 < identity.form) | ((0 < identity.form) & wide(identity.ssi)),
+        Fault::Short => identity.form == 0,
+    }
+}
+
+// Whether an identity in use has this fault.
+fn any_faulty(code: u64, identity: [Identity; MAX_LISTED], fault: Fault) -> bool
+    ensures { λ r. ⌜ r ≡ any (faulty fault) (used (numbersAs code identity)) ⌝ }
+{
+    let count = used_count(code);
+    let mut i: usize = 0;
+    while i < count {
+        if is_faulty(identity[i], fault) {
+            return true;
+        }
+        i += 1;
+    }
+    false
+}
+
+// A reserved number type, or a bad identity in use.
+pub fn bad_list(list: Listed) -> bool
+    ensures { λ r. ⌜ r ≡ badList (listOf list) ⌝ }
+{
+    if list.given {
+        let numbers = list.numbers;
+        let identity = numbers.identity;
+        return (10 < numbers.code) | any_faulty(numbers.code, identity, Fault::Bad);
+    }
+    false
+}
+
+// A form not taken: a range, or an SNA.
+pub fn untaken(list: Listed) -> bool
+    ensures { λ r. ⌜ r ≡ untaken (listOf list) ⌝ }
+{
+    if list.given {
+        let numbers = list.numbers;
+        let identity = numbers.identity;
+        return (numbers.code == 1) | any_faulty(numbers.code, identity, Fault::Short);
+    }
+    false
+}

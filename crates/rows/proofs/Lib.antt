@@ -1,0 +1,2 @@
+-- What holds of the contracts.
+pub mod Unique

@@ -1,0 +1,2 @@
+-- The names of the layout, for definitions.
+pub mod Layout

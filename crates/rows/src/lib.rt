@@ -1,0 +1,74 @@
+// The layout of the lent storage and rooms: how many rows there are, how many words a row has, and which word says what.
+// Definitions have the same names, in specs/Layout.antt.
+
+ghost use Prim.Native.Nat.{min};
+ghost use mathlib.Core.Path.{_≡_};
+
+// The most groups and pairs, the most owners of a group, letters of its name and numbers of a list.
+pub const MAX_GROUPS: usize = 320;
+
+pub const MAX_PAIRS: usize = 2048;
+
+pub const MAX_OWNERS: usize = 11;
+
+pub const MAX_LETTERS: usize = 16;
+
+pub const MAX_LISTED: usize = 10;
+
+// The words of the head, of a group's row and of a pair's row; of an outgoing order and of a listed radio.
+pub const HEAD_WORDS: usize = 2;
+
+pub const GROUP_WORDS: usize = 36;
+
+pub const PAIR_WORDS: usize = 4;
+
+pub const ORDER_WORDS: usize = 3;
+
+pub const ENTRY_WORDS: usize = 2;
+
+// The head: how many groups, how many pairs.
+pub const GROUP_COUNT: usize = 0;
+
+pub const PAIR_COUNT: usize = 1;
+
+// A group's row: its key; six values; the name's length and letters; how many owners, and they.
+pub const KEY_WORD: usize = 0;
+
+pub const REFERENCE_WORD: usize = 1;
+
+pub const CALL_WORD: usize = 2;
+
+pub const BROADCAST_WORD: usize = 3;
+
+pub const CLASS_WORD: usize = 4;
+
+pub const LIFETIME_WORD: usize = 5;
+
+pub const TEMPORARY_WORD: usize = 6;
+
+pub const NAME_LENGTH: usize = 7;
+
+pub const FIRST_LETTER: usize = 8;
+
+pub const OWNER_COUNT: usize = 24;
+
+pub const FIRST_OWNER: usize = 25;
+
+// A pair's row: group, radio, state, ticks.
+pub const PAIR_GROUP: usize = 0;
+
+pub const PAIR_RADIO: usize = 1;
+
+pub const PAIR_STATE: usize = 2;
+
+pub const PAIR_TICKS: usize = 3;
+
+// The lesser of two numbers.
+pub fn lesser(a: usize, b: usize) -> usize
+    ensures { λ r. ⌜ r ≡ min a b ⌝ }
+{
+    if a < b {
+        return a;
+    }
+    b
+}

@@ -1,0 +1,2 @@
+-- The definitions that the contracts of outgoing orders cite.
+pub mod Pushed

@@ -1,0 +1,47 @@
+// The orders that go out to the radios of a group, in lent room.
+use order::GroupKey;
+use rows::ORDER_WORDS;
+ghost use Prim.Native.Nat.{_≤_, _+_};
+ghost use lib.ListN.{length};
+ghost use lib.Seq.{paste};
+ghost use mathlib.Core.List.{map};
+ghost use mathlib.Core.Path.{_≡_};
+ghost use Rattle.rules.specs.Outgoing.{orders};
+ghost use Rattle.replies.specs.Sending.{orderRow};
+ghost use Rattle.sending.specs.Pushed.{pushed};
+
+// The kinds of an outgoing order.
+pub const ASSIGN: u64 = 0;
+
+pub const DEASSIGN: u64 = 1;
+
+// An order of this kind to each radio, from place `at` on.
+fn push_rows(out: &mut [[u64; ORDER_WORDS]], at: usize, kind: u64, group: GroupKey, radios: &[u64])
+    requires { ⌜ at + length (now radios) ≤ length (now out) ⌝ }
+    ensures { λ _. ⌜ now (out .exit) ≡ paste (now (out .entry)) at (map orderRow (orders kind (group .0) (now (radios .entry)))) (length (now (radios .entry))) ⌝ }
+{
+    let mut i: usize = 0;
+    while i < radios.len() {
+        out[at + i] = [kind, radios[i], group.0];
+        i += 1;
+    }
+}
+
+// An order of this kind to each radio, from place `at` on; nothing where they do not fit.
+pub fn push_orders(
+    out: &mut [[u64; ORDER_WORDS]],
+    at: usize,
+    kind: u64,
+    group: GroupKey,
+    radios: &[u64],
+)
+    ensures { λ _. ⌜ now (out .exit) ≡ pushed (now (out .entry)) at (map orderRow (orders kind (group .0) (now (radios .entry)))) ⌝ }
+{
+    if out.len() < at {
+        return;
+    }
+    if out.len() - at < radios.len() {
+        return;
+    }
+    push_rows(out, at, kind, group, radios);
+}

@@ -1,0 +1,138 @@
+// Turning the pairs: each is changed in its place or taken out, and those that stay close up.
+use order::Groups;
+use order::Radios;
+use order::keys::group_count;
+use order::keys::radio_count;
+use order::lists::member;
+use rows::PAIR_GROUP;
+use rows::PAIR_RADIO;
+use rows::PAIR_STATE;
+use rows::PAIR_TICKS;
+use rows::PAIR_WORDS;
+use rows::lesser;
+ghost use Prim.Native.Nat.{_≤_};
+ghost use lib.ListN.{length, getD};
+ghost use mathlib.Core.Bool.{_&&_};
+ghost use mathlib.Core.List.{map};
+ghost use mathlib.Core.Path.{_≡_};
+ghost use Rattle.rules.specs.Entries.{alter};
+ghost use Rattle.rules.specs.Lists.{mem};
+ghost use Rattle.rules.specs.Mark.{ticked};
+ghost use Rattle.rows.specs.Layout.{pairGroup, pairRadio};
+ghost use Rattle.order.specs.Keys.{groupKeys, radioKeys};
+ghost use Rattle.store.specs.Lists.{Fills};
+ghost use Rattle.store.specs.Storage.{pairOf, pairRow, pairsOf};
+ghost use Rattle.turning.specs.Turns.{staysOf, markOf, turnOf};
+
+// What becomes of the pairs in an order that makes none.
+pub enum Turn {
+    Tick,
+    Confirm,
+    Leave,
+    LeaveAll,
+}
+
+// The states, and the last tick that a waiting pair counts.
+const WAITING: u64 = 1;
+
+const CONFIRMED: u64 = 2;
+
+const UNHEARD: u64 = 3;
+
+const LAST_TICK: u64 = 29;
+
+// A waiting pair counts one; at its 30th tick it is unheard.
+fn ticked_row(row: [u64; PAIR_WORDS]) -> [u64; PAIR_WORDS]
+    ensures { λ r. ⌜ r ≡ pairRow (pairOf row .0, ticked (pairOf row .1)) ⌝ }
+{
+    if row[PAIR_STATE] == WAITING {
+        if LAST_TICK <= row[PAIR_TICKS] {
+            return [row[PAIR_GROUP], row[PAIR_RADIO], UNHEARD, 0];
+        }
+        return [
+            row[PAIR_GROUP],
+            row[PAIR_RADIO],
+            WAITING,
+            row[PAIR_TICKS] + 1,
+        ];
+    }
+    row
+}
+
+// Whether the order names this pair.
+fn names(groups: &[u64], radios: &[u64], row: [u64; PAIR_WORDS]) -> bool
+    ensures { λ r. ⌜ r ≡ (mem (getD row pairGroup 0) (now (groups .entry)) && mem (getD row pairRadio 0) (now (radios .entry))) ⌝ }
+{
+    member(groups, row[PAIR_GROUP]) & member(radios, row[PAIR_RADIO])
+}
+
+fn stays(turn: Turn, groups: &[u64], radios: &[u64], row: [u64; PAIR_WORDS]) -> bool
+    ensures { λ r. ⌜ r ≡ staysOf turn (now (groups .entry)) (now (radios .entry)) (pairOf row .0) ⌝ }
+{
+    match turn {
+        Turn::Tick => true,
+        Turn::Confirm => true,
+        Turn::Leave => !names(groups, radios, row),
+        Turn::LeaveAll => !member(groups, row[PAIR_GROUP]),
+    }
+}
+
+fn turned(turn: Turn, groups: &[u64], radios: &[u64], row: [u64; PAIR_WORDS]) -> [u64; PAIR_WORDS]
+    ensures { λ r. ⌜ r ≡ pairRow (pairOf row .0, markOf turn (now (groups .entry)) (now (radios .entry)) (pairOf row .0) (pairOf row .1)) ⌝ }
+{
+    match turn {
+        Turn::Tick => ticked_row(row),
+        Turn::Confirm => {
+            if names(groups, radios, row) {
+                return [row[PAIR_GROUP], row[PAIR_RADIO], CONFIRMED, 0];
+            }
+            row
+        }
+        Turn::Leave => row,
+        Turn::LeaveAll => row,
+    }
+}
+
+// The first `count` pairs, turned.
+fn turn_rows(
+    pairs: &mut [[u64; PAIR_WORDS]],
+    count: usize,
+    turn: Turn,
+    groups: &[u64],
+    radios: &[u64],
+) -> usize
+    requires { ⌜ count ≤ length (now pairs) ⌝ }
+    ensures { λ r. ⌜ Fills pairRow (alter (turnOf turn (now (groups .entry)) (now (radios .entry))) (pairsOf count (now (pairs .entry))))
+        (now (pairs .entry)) (now (pairs .exit)) r ⌝ }
+{
+    let mut kept: usize = 0;
+    let mut i: usize = 0;
+    while i < count {
+        let row = pairs[i];
+        i += 1;
+        if stays(turn, groups, radios, row) {
+            pairs[kept] = turned(turn, groups, radios, row);
+            kept += 1;
+        }
+    }
+    kept
+}
+
+// Each pair is changed in its place or taken out; those that stay close up in their order, and their count is returned.
+pub fn turn_pairs(
+    pairs: &mut [[u64; PAIR_WORDS]],
+    count: usize,
+    turn: Turn,
+    groups: Groups,
+    radios: Radios,
+) -> usize
+    ensures { λ r. ⌜ Fills pairRow (alter (turnOf turn (groupKeys groups) (radioKeys radios)) (pairsOf count (now (pairs .entry))))
+        (now (pairs .entry)) (now (pairs .exit)) r ⌝ }
+{
+    let end = lesser(count, pairs.len());
+    let group_key = groups.key;
+    let named = group_count(groups);
+    let radio_key = radios.key;
+    let listed = radio_count(radios);
+    turn_rows(pairs, end, turn, &group_key[..named], &radio_key[..listed])
+}
