@@ -1,6 +1,8 @@
 // What the ledger's orders and questions are answered with.
 
 use refusal::Refusal;
+use rows::MAX_LETTERS;
+use rows::MAX_OWNERS;
 
 // What an order is answered with.
 pub enum Reply {
@@ -24,7 +26,7 @@ pub enum Members {
 pub struct Shown {
     pub reply: Reply,
     pub count: usize,
-    pub owners: [u64; 11],
+    pub owners: [u64; MAX_OWNERS],
     pub reference: u64,
     pub acknowledged: u64,
     pub broadcast: u64,
@@ -32,5 +34,5 @@ pub struct Shown {
     pub lifetime: u64,
     pub temporary: u64,
     pub letters: u64,
-    pub name: [u64; 16],
+    pub name: [u64; MAX_LETTERS],
 }

@@ -9,6 +9,12 @@ use Prim.Native.Nat.{ℕ}
 abbrev pub headWords : ℕ
 headWords = 2
 
+abbrev pub groupCount : ℕ
+groupCount = 0
+
+abbrev pub pairCount : ℕ
+pairCount = 1
+
 abbrev pub groupWords : ℕ
 groupWords = 36
 

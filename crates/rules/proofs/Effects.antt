@@ -10,7 +10,7 @@ use Rattle.rules.specs.Lists.{any, present, mem}
 use Rattle.rules.specs.Entries.{find, keepKeys, alter}
 use Rattle.rules.specs.Effect.{Effect}
 use Rattle.rules.specs.Change.{after}
-use Rattle.rules.specs.Ledger.{Group, Pair, samePair, Ledger, group, ownersOf, parametersOf, view, ownersAfter, groupAfter, product, apply}
+use Rattle.rules.specs.Ledger.{Group, Pair, samePair, Ledger, group, ownersOf, parametersOf, view, ownersAfter, given, groupAfter, product, apply}
 use Rattle.rules.proofs.Tests.{split, clash, and-false}
 use Rattle.rules.proofs.ListLaws.{any-append, eqb-same}
 use Rattle.rules.proofs.EntryLaws.{Single, find-puts, find-keep, find-alter, single-puts, single-keep, single-alter}
@@ -42,10 +42,10 @@ any-product g r (x ∷ gs) rs = split (eqb g x)
 -- ---- what the ledger says after a step is the step's effect on what it said before ----
 
 pub group-after : (l : Ledger) (e : Effect) (g : ℕ)
-    → group (apply l e) g ≡ cond (mem g (e .makes)) (some (groupAfter e (group l g))) (cond (not (e .removes g)) (group l g) none)
+    → group (apply l e) g ≡ cond (mem g (e .makes)) (some (groupAfter (e .keeps) (given e) (group l g))) (cond (not (e .removes g)) (group l g) none)
 group-after l e g =
     cc (
-      find-puts eqb eqb-true eqb-same (keepKeys (λ g. not (e .removes g)) (l .groups)) (e .makes) (λ g. groupAfter e (group l g)) g,
+      find-puts eqb eqb-true eqb-same (keepKeys (λ g. not (e .removes g)) (l .groups)) (e .makes) (λ g. groupAfter (e .keeps) (given e) (group l g)) g,
       find-keep eqb eqb-true eqb-same (λ g. not (e .removes g)) (l .groups) g,
     )
 
@@ -59,7 +59,7 @@ owner-after l e g a = split (mem g (e .makes))
     (λ b. cc (group-after l e g, made (group l g)))
     (λ b. split (e .removes g) (λ c. cc (group-after l e g)) (λ c. cc (group-after l e g)))
   where
-    made : (x : Option Group) → mem a (ownersAfter e x) ≡ cond (present x && e .keeps) (mem a (ownersOf x)) (mem a (e .owners))
+    made : (x : Option Group) → mem a (ownersAfter (e .keeps) (given e) x) ≡ cond (present x && e .keeps) (mem a (ownersOf x)) (mem a (e .owners))
     made none = refl
     made (some x) = split (e .keeps) (λ k. cc) (λ k. cc)
 
@@ -88,7 +88,7 @@ view-after l e s = λ i. record {
 -- ---- no group and no pair twice ----
 
 pub single-groups : (l : Ledger) (e : Effect) → Single eqb (l .groups) → Single eqb (apply l e .groups)
-single-groups l e h = single-puts eqb eqb-true eqb-same (keepKeys (λ g. not (e .removes g)) (l .groups)) (e .makes) (λ g. groupAfter e (group l g))
+single-groups l e h = single-puts eqb eqb-true eqb-same (keepKeys (λ g. not (e .removes g)) (l .groups)) (e .makes) (λ g. groupAfter (e .keeps) (given e) (group l g))
     (single-keep eqb eqb-true eqb-same (λ g. not (e .removes g)) (l .groups) h)
 
 pub single-pairs : (l : Ledger) (e : Effect) → Single samePair (l .pairs) → Single samePair (apply l e .pairs)

@@ -13,7 +13,7 @@ use Rattle.rules.specs.Number.{Identity, Numbers, used, key, numbers, nu
 use Rattle.rules.specs.Mark.{Mark, begun}
 use Rattle.rules.specs.Order.{Define, define, defineGroups, defineRadios}
 use Rattle.rules.specs.Effect.{effect}
-use Rattle.rules.specs.Ledger.{Group, Pair, samePair, Ledger, group, view, groupAfter, product, apply}
+use Rattle.rules.specs.Ledger.{Group, Pair, samePair, Ledger, group, view, given, groupAfter, product, apply}
 use Rattle.rules.proofs.ListLaws.{eqb-same, Once, once-once}
 use Rattle.rules.proofs.Effects.{pair-sound, pair-itself}
 use Rattle.rules.proofs.Walks.{keep-all, alter-all, length-puts, length-product, product-apart, putsNow, puts-now}
@@ -26,14 +26,14 @@ numbers-once (some n) = once-once (map (λ (i : Identity). key (i .ssi)) (used n
 
 -- one group after the other, each made from what stands at its turn
 pub define-lists : (l : Ledger) (o : Define) (room : ℕ) → apply l (effect (view l) (define o room)) ≡ record {
-  groups = putsNow eqb (l .groups) (defineGroups o) (groupAfter (effect (view l) (define o room)));
+  groups = putsNow eqb (l .groups) (defineGroups o) (groupAfter ((effect (view l) (define o room)) .keeps) (given (effect (view l) (define o room))));
   pairs = puts samePair (l .pairs) (product (defineGroups o) (defineRadios o)) (λ k. begun (o .acknowledgement));
 }
 define-lists l o room = λ i. record { groups = made i; pairs = set i }
   where
-    made : apply l (effect (view l) (define o room)) .groups ≡ putsNow eqb (l .groups) (defineGroups o) (groupAfter (effect (view l) (define o room)))
-    made = ap (λ (k : List (ℕ × Group)). puts eqb k (defineGroups o) (λ g. groupAfter (effect (view l) (define o room)) (group l g))) (keep-all (l .groups))
-        ∙ puts-now eqb eqb-true eqb-same (l .groups) (defineGroups o) (groupAfter (effect (view l) (define o room))) (numbers-once (o .groups))
+    made : apply l (effect (view l) (define o room)) .groups ≡ putsNow eqb (l .groups) (defineGroups o) (groupAfter ((effect (view l) (define o room)) .keeps) (given (effect (view l) (define o room))))
+    made = ap (λ (k : List (ℕ × Group)). puts eqb k (defineGroups o) (λ g. groupAfter ((effect (view l) (define o room)) .keeps) (given (effect (view l) (define o room))) (group l g))) (keep-all (l .groups))
+        ∙ puts-now eqb eqb-true eqb-same (l .groups) (defineGroups o) (groupAfter ((effect (view l) (define o room)) .keeps) (given (effect (view l) (define o room)))) (numbers-once (o .groups))
 
     set : apply l (effect (view l) (define o room)) .pairs ≡ puts samePair (l .pairs) (product (defineGroups o) (defineRadios o)) (λ k. begun (o .acknowledgement))
     set = ap (λ (k : List (Pair × Mark)). puts samePair k (product (defineGroups o) (defineRadios o)) (λ k. begun (o .acknowledgement))) (alter-all (l .pairs))
@@ -42,8 +42,8 @@ define-lists l o room = λ i. record { groups = made i; pairs = set i }
 pub define-groups-total : (l : Ledger) (o : Define) (room : ℕ)
     → length (apply l (effect (view l) (define o room)) .groups) ≡ length (l .groups) + length (keep (λ g. not (present (group l g))) (defineGroups o))
 define-groups-total l o room =
-    ap (λ (k : List (ℕ × Group)). length (puts eqb k (defineGroups o) (λ g. groupAfter (effect (view l) (define o room)) (group l g)))) (keep-all (l .groups))
-    ∙ length-puts eqb eqb-true eqb-same (l .groups) (defineGroups o) (λ g. groupAfter (effect (view l) (define o room)) (group l g)) (numbers-once (o .groups))
+    ap (λ (k : List (ℕ × Group)). length (puts eqb k (defineGroups o) (λ g. groupAfter ((effect (view l) (define o room)) .keeps) (given (effect (view l) (define o room))) (group l g)))) (keep-all (l .groups))
+    ∙ length-puts eqb eqb-true eqb-same (l .groups) (defineGroups o) (λ g. groupAfter ((effect (view l) (define o room)) .keeps) (given (effect (view l) (define o room))) (group l g)) (numbers-once (o .groups))
 
 pub define-pairs-total : (l : Ledger) (o : Define) (room : ℕ)
     → length (apply l (effect (view l) (define o room)) .pairs) ≡ length (l .pairs) + sum (λ g. length (keep (λ r. not (present (find samePair (l .pairs) (g, r)))) (defineRadios o))) (defineGroups o)

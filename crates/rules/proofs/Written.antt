@@ -16,7 +16,7 @@ use Rattle.rules.specs.Mark.{Mark, fresh, confirmed, ticked}
 use Rattle.rules.specs.Order.{Define, Delete, Answer, Step, define, delete, answer, tick, defineGroups, deleteGroups, leaves}
 use Rattle.rules.specs.Effect.{Effect, only, effect}
 use Rattle.rules.specs.Refusals.{accepted, maxGroups, maxPairs, refuses, badValues}
-use Rattle.rules.specs.Ledger.{Group, Pair, samePair, Ledger, empty, group, parametersOf, view, ownersAfter, groupAfter, apply, refused, step}
+use Rattle.rules.specs.Ledger.{Group, Pair, samePair, Ledger, empty, group, parametersOf, view, ownersAfter, given, groupAfter, apply, refused, step}
 use Rattle.rules.specs.Written.{goodOwners, goodGroup, goodMark, goodPair, written}
 use Rattle.rules.specs.History.{History, start, _then_}
 use Rattle.rules.specs.Run.{run}
@@ -132,14 +132,14 @@ form-apply l e f p = record {
     s : Single samePair (l .pairs)
     s = f .pairs-once
 
-    made : (g : ℕ) (x : Group) → mem g (e .makes) ≡ true → some (groupAfter e (group l g)) ≡ some x → goodGroup (g, x) ≡ true
+    made : (g : ℕ) (x : Group) → mem g (e .makes) ≡ true → some (groupAfter (e .keeps) (given e) (group l g)) ≡ some x → goodGroup (g, x) ≡ true
     made g x a k =
-        let q : groupAfter e (group l g) ≡ x = cc in
+        let q : groupAfter (e .keeps) (given e) (group l g) ≡ x = cc in
         sym (ap (λ (y : Group). goodGroup (g, y)) q) ∙ and-in (not-in (wideKey g) (p .makes g a .0)) (and-in
         (owners (group l g) (good-option l f g))
         (not-in (badParameters (replaced (e .parameters) (parametersOf (group l g)))) (replaced-fit e (group l g) (p .parameters) (good-option l f g))))
       where
-        owners : (x : Option Group) → GoodOption x → goodOwners (ownersAfter e x) ≡ true
+        owners : (x : Option Group) → GoodOption x → goodOwners (ownersAfter (e .keeps) (given e) x) ≡ true
         owners none k = p .makes g a .1
         owners (some x) k = split (e .keeps) (λ b. rw b (k .0)) (λ b. rw b (p .makes g a .1))
 

@@ -67,12 +67,17 @@ members l g = rising (radiosOf g (l .pairs))
 
 -- ---- what an accepted step does ----
 
-abbrev pub ownersAfter : Effect → Option Group → List ℕ
-ownersAfter e none = e .owners
-ownersAfter e (some x) = cond (e .keeps) (x .owners) (e .owners)
+-- a group as the step gives it
+abbrev pub given : Effect → Group
+given e = record { owners = e .owners; parameters = e .parameters }
 
-abbrev pub groupAfter : Effect → Option Group → Group
-groupAfter e x = record { owners = ownersAfter e x; parameters = replaced (e .parameters) (parametersOf x) }
+-- whether a group that was there keeps its owners; the group as it is given; the group that was there
+abbrev pub ownersAfter : Bool → Group → Option Group → List ℕ
+ownersAfter keeps new none = new .owners
+ownersAfter keeps new (some x) = cond keeps (x .owners) (new .owners)
+
+abbrev pub groupAfter : Bool → Group → Option Group → Group
+groupAfter keeps new x = record { owners = ownersAfter keeps new x; parameters = replaced (new .parameters) (parametersOf x) }
 
 -- every group with every radio, groups first
 abbrev pub product : List ℕ → List ℕ → List Pair
@@ -81,7 +86,7 @@ product groups radios = join (λ g. map (λ (r : ℕ). (g, r)) radios) groups
 -- what stays keeps its place; what is new comes at the end
 abbrev pub apply : Ledger → Effect → Ledger
 apply l e = record {
-  groups = puts eqb (keepKeys (λ g. not (e .removes g)) (l .groups)) (e .makes) (λ g. groupAfter e (group l g));
+  groups = puts eqb (keepKeys (λ g. not (e .removes g)) (l .groups)) (e .makes) (λ g. groupAfter (e .keeps) (given e) (group l g));
   pairs = puts samePair (alter (λ (k : Pair). e .turns (k .0) (k .1)) (l .pairs)) (product (e .makes) (e .assigns)) (λ k. e .begins);
 }
 

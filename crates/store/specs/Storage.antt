@@ -12,12 +12,16 @@ use Rattle.order.specs.Walks.{left}
 use Rattle.store.specs.Lists.{onto}
 use Rattle.order.specs.Row.{heldOf, lettersOf}
 
+-- rows of words
+abbrev pub Rows : Type 0
+Rows = List (List ℕ)
+
 pub record Contents : Type 0 where
   pub head : List ℕ
-  pub groups : List (List ℕ)
-  pub pairs : List (List ℕ)
+  pub groups : Rows
+  pub pairs : Rows
 
-abbrev pub contents : List ℕ → List (List ℕ) → List (List ℕ) → Contents
+abbrev pub contents : List ℕ → Rows → Rows → Contents
 contents head groups pairs = record { head = head; groups = groups; pairs = pairs }
 
 -- ---- a pair's row ----
@@ -31,11 +35,11 @@ pairOf words = (
 abbrev pub pairRow : Pair × Mark → List ℕ
 pairRow e = e .0 .0 ∷ e .0 .1 ∷ e .1 .state ∷ e .1 .ticks ∷ []
 
-abbrev pub pairsOf : ℕ → List (List ℕ) → List (Pair × Mark)
+abbrev pub pairsOf : ℕ → Rows → List (Pair × Mark)
 pairsOf n rows = map pairOf (take n rows)
 
 -- those from place i on
-abbrev pub pairsFrom : ℕ → ℕ → List (List ℕ) → List (Pair × Mark)
+abbrev pub pairsFrom : ℕ → ℕ → Rows → List (Pair × Mark)
 pairsFrom i n rows = map pairOf (left i n rows)
 
 -- ---- a group's row ----
@@ -82,19 +86,19 @@ groupRow e = let p = e .1 .parameters in
     ∷ heldOf (p .class) ∷ heldOf (p .lifetime) ∷ heldOf (p .temporary)
     ∷ (counted row.maxLetters (lettersOf (p .name)) ++ counted maxOwners (e .1 .owners))
 
-abbrev pub groupsOf : ℕ → List (List ℕ) → List (ℕ × Group)
+abbrev pub groupsOf : ℕ → Rows → List (ℕ × Group)
 groupsOf n rows = map groupOf (take n rows)
 
-abbrev pub groupsFrom : ℕ → ℕ → List (List ℕ) → List (ℕ × Group)
+abbrev pub groupsFrom : ℕ → ℕ → Rows → List (ℕ × Group)
 groupsFrom i n rows = map groupOf (left i n rows)
 
 -- ---- the ledger ----
 
 abbrev pub groupCount : Contents → ℕ
-groupCount c = getD (c .head) 0 0
+groupCount c = getD (c .head) row.groupCount 0
 
 abbrev pub pairCount : Contents → ℕ
-pairCount c = getD (c .head) 1 0
+pairCount c = getD (c .head) row.pairCount 0
 
 abbrev pub ledgerOf : Contents → Ledger
 ledgerOf c = record { groups = groupsOf (groupCount c) (c .groups); pairs = pairsOf (pairCount c) (c .pairs) }

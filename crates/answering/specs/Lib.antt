@@ -1,0 +1,2 @@
+-- The definitions that the contracts of an answer cite.
+pub mod Answers

@@ -1,0 +1,2 @@
+-- The definitions that the contracts of a show cite.
+pub mod Keys

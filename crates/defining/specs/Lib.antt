@@ -1,0 +1,8 @@
+-- The definitions that the contracts of a define cite.
+pub mod Each
+pub mod Pairs
+pub mod Groups
+pub mod Row
+pub mod Sent
+pub mod Totals
+pub mod Tests

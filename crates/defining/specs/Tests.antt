@@ -1,0 +1,40 @@
+-- The tests of a define, in plain lists.
+use Prim.Native.Nat.{ℕ, _+_, _*_}
+use mathlib.Core.Bool.{Bool, _||_}
+use mathlib.Core.List.{List, [], _∷_}
+use lib.Dec.{eqb, ltb}
+use lib.ListN.{length}
+use Rattle.refusal.specs.declared.Refusal.{Refusal}
+use Rattle.refusal.specs.declared.Refusal.the-variants.{BadOrder, FormNotTaken, NotOwner, Full, NoRoom}
+use Rattle.layout.specs.Frame.{judgedOf}
+use Rattle.layout.specs.declared.Kind.the-variants as kind
+use Rattle.rules.specs.Lists.{any}
+use Rattle.rules.specs.Entries.{find}
+use Rattle.rules.specs.Mark.{Mark}
+use Rattle.rules.specs.Number.{wide, untaken}
+use Rattle.rules.specs.Recorded.{saysYes, callRelated}
+use Rattle.rules.specs.Refusals.{refuses, maxGroups, maxPairs}
+use Rattle.rules.specs.Ledger.{Group, Pair}
+use Rattle.order.specs.Lists.{listOf}
+use Rattle.order.specs.Recorded.{groupList, ownerList, radioList}
+use Rattle.order.specs.declared.Itsi.{Itsi}
+use Rattle.order.specs.declared.RadioKey.{RadioKey}
+use Rattle.store.specs.Named.{groupFault}
+use Rattle.store.specs.declared.Standing.the-variants.{Taken}
+use Rattle.defining.specs.Totals.{newGroups, newPairs}
+
+-- of its form
+abbrev pub defineForm : Itsi → List ℕ → List (Refusal × Bool)
+defineForm asker places =
+    (BadOrder, wide (asker .0) || refuses (judgedOf kind.Define places))
+    ∷ (FormNotTaken, saysYes places callRelated
+        || (untaken (listOf (groupList places)) || (untaken (listOf (ownerList places)) || untaken (listOf (radioList places)))))
+    ∷ []
+
+-- and of what stands
+abbrev pub defineStand : List (ℕ × Group) → List (Pair × Mark) → RadioKey → List ℕ → List ℕ → ℕ → List (Refusal × Bool)
+defineStand groups pairs asker named radios room =
+    (NotOwner, any (λ g. groupFault Taken (find eqb groups g) (asker .0)) named)
+    ∷ (Full, ltb maxGroups (length groups + newGroups groups named) || ltb maxPairs (length pairs + newPairs pairs radios named))
+    ∷ (NoRoom, ltb room (length named * length radios))
+    ∷ []

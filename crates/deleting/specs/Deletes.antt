@@ -1,0 +1,51 @@
+-- A delete's tests and effect, in plain lists: the keys of its groups, whether radios are listed, and their keys.
+use Prim.Native.Nat.{ℕ}
+use mathlib.Core.Bool.{Bool, cond, not, _&&_, _||_}
+use mathlib.Core.List.{List, [], _∷_}
+use lib.Dec.{eqb, ltb}
+use lib.ListN.{length}
+use Rattle.refusal.specs.declared.Refusal.{Refusal}
+use Rattle.refusal.specs.declared.Refusal.the-variants.{BadOrder, FormNotTaken, NoSuchGroup, NotOwner, NothingToDo, NoRoom}
+use Rattle.rules.specs.Lists.{any}
+use Rattle.rules.specs.Entries.{find, alter}
+use Rattle.rules.specs.Mark.{Mark}
+use Rattle.rules.specs.Number.{wide, badList, untaken}
+use Rattle.rules.specs.Ledger.{Group, Pair}
+use Rattle.order.specs.Lists.{listOf}
+use Rattle.order.specs.declared.Itsi.{Itsi}
+use Rattle.order.specs.declared.RadioKey.{RadioKey}
+use Rattle.order.specs.declared.Listed.{Listed}
+use Rattle.store.specs.Named.{groupFault}
+use Rattle.store.specs.declared.Standing.the-variants.{Missing, Foreign}
+use Rattle.turning.specs.Turns.{turnOf}
+use Rattle.turning.specs.declared.Turn.{Turn}
+use Rattle.turning.specs.declared.Turn.the-variants.{Leave, LeaveAll}
+use Rattle.deleting.specs.Leaving.{leavingOrders, remaining}
+
+-- the tests of its form
+abbrev pub formTests : Itsi → Listed → Bool → Listed → List (Refusal × Bool)
+formTests asker groups deassign radios =
+    (BadOrder, wide (asker .0) || (badList (listOf groups) || (badList (listOf radios) || (radios .given && not deassign))))
+    ∷ (FormNotTaken, untaken (listOf groups) || untaken (listOf radios))
+    ∷ []
+
+-- and those of what stands
+abbrev pub standTests : List (ℕ × Group) → List (Pair × Mark) → RadioKey → List ℕ → Bool → Bool → Bool → List ℕ → ℕ → List (Refusal × Bool)
+standTests groups pairs asker named remove deassign listed radios room =
+    (NoSuchGroup, any (λ g. groupFault Missing (find eqb groups g) (asker .0)) named)
+    ∷ (NotOwner, any (λ g. groupFault Foreign (find eqb groups g) (asker .0)) named)
+    ∷ (NothingToDo, not remove && not deassign)
+    ∷ (NoRoom, ltb room (length (leavingOrders deassign listed radios pairs named)))
+    ∷ []
+
+-- ---- what a delete leaves ----
+
+-- all pairs of the groups go, or those of the listed radios
+abbrev pub deleteTurn : Bool → Bool → Turn
+deleteTurn remove listed = cond (not remove && listed) Leave LeaveAll
+
+abbrev pub groupsLeft : List ℕ → Bool → List (ℕ × Group) → List (ℕ × Group)
+groupsLeft named remove l = cond remove (remaining named l) l
+
+abbrev pub pairsLeft : List ℕ → Bool → Bool → List ℕ → List (Pair × Mark) → List (Pair × Mark)
+pairsLeft named remove listed radios l = alter (turnOf (deleteTurn remove listed) named radios) l

@@ -1,0 +1,35 @@
+-- Document 01's number, 0 where it is accepted, and the values that each answer says.
+use Prim.Native.Nat.{ℕ}
+use mathlib.Core.List.{List, [], _∷_, _++_}
+use lib.ListN.{take}
+use Rattle.refusal.specs.Says.{Says, accepted, refusedWith}
+use Rattle.replies.specs.declared.Reply.{Reply}
+use Rattle.replies.specs.declared.Reply.the-variants as reply
+use Rattle.replies.specs.declared.Sent.{Sent}
+use Rattle.replies.specs.declared.Sent.the-variants as sent
+use Rattle.replies.specs.declared.Members.{Members}
+use Rattle.replies.specs.declared.Members.the-variants as members
+use Rattle.replies.specs.declared.Shown.{Shown}
+
+abbrev pub replySays : Reply → Says
+replySays reply.Done = accepted []
+replySays (reply.Refused r) = refusedWith r
+
+-- how many orders go out
+abbrev pub sentSays : Sent → Says
+sentSays (sent.Orders n) = accepted (n ∷ [])
+sentSays (sent.Refused r) = refusedWith r
+
+-- how many radios are listed
+abbrev pub membersSays : Members → Says
+membersSays (members.Radios n) = accepted (n ∷ [])
+membersSays (members.Refused r) = refusedWith r
+
+-- the owners, then the parameters, each one up and 0 where absent, then the letters
+abbrev pub shownSays : Shown → Says
+shownSays s = go (s .reply)
+  where
+    go : Reply → Says
+    go reply.Done = accepted (take (s .count) (s .owners)
+        ++ (s .reference ∷ s .acknowledged ∷ s .broadcast ∷ s .class ∷ s .lifetime ∷ s .temporary ∷ take (s .letters) (s .name)))
+    go (reply.Refused r) = refusedWith r

@@ -1,0 +1,3 @@
+-- The definitions that the contracts of turned pairs cite.
+pub mod Turns
+pub mod Says
