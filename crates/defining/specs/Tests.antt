@@ -27,8 +27,11 @@ use Rattle.defining.specs.Totals.{newGroups, newPairs}
 abbrev pub defineForm : Itsi → List ℕ → List (Refusal × Bool)
 defineForm asker places =
     (BadOrder, wide (asker .0) || refuses (judgedOf kind.Define places))
-    ∷ (FormNotTaken, saysYes places callRelated
-        || (untaken (listOf (groupList places)) || (untaken (listOf (ownerList places)) || untaken (listOf (radioList places)))))
+    ∷ (
+      FormNotTaken,
+      saysYes places callRelated
+          || (untaken (listOf (groupList places)) || (untaken (listOf (ownerList places)) || untaken (listOf (radioList places)))),
+    )
     ∷ []
 
 -- and of what stands
