@@ -31,7 +31,7 @@ use Rattle.order.specs.declared.Gtsi.{Gtsi}
 use Rattle.order.specs.declared.Itsi.{Itsi}
 use Rattle.replies.specs.declared.Reply.the-variants.{Done, Refused}
 use Rattle.replies.specs.declared.Members.the-variants as members
-use Rattle.store.proofs.Form.{law-form}
+use Rattle.store.proofs.FormLaws.{law-form}
 use Rattle.order.proofs.Walks.{left-cons, left-end}
 
 pub gap-same : (o : List (List ℕ)) (k : ℕ) → gap k k o ≡ o

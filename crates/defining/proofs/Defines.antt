@@ -8,7 +8,8 @@ use native.Mathlib.Omega.{arith}
 use lib.ListN.{length, getD, set, take, length-append, length-set}
 use lib.Seq.{take-suc}
 use Rattle.rules.specs.Lists.{keep, sum}
-use Rattle.rules.specs.Entries.{put, puts}
+use Rattle.rules.specs.Arrival.{put}
+use Rattle.rules.specs.Placing.{puts}
 use Rattle.rules.specs.Mark.{Mark, fresh}
 use Rattle.rules.specs.Ledger.{Pair, samePair, product}
 use Rattle.rules.proofs.Walks.{keep-append, sum-append, length-put, puts-append}
@@ -17,7 +18,7 @@ use Rattle.store.specs.Lists.{Plain, onto}
 use Rattle.store.specs.Storage.{pairOf, pairRow, pairsOf}
 use Rattle.defining.specs.Pairs.{setPair, setRadios, setAll}
 use Rattle.store.proofs.Rows.{length-items}
-use Rattle.store.proofs.Places.{Row, Missing}
+use Rattle.store.proofs.PlaceLaws.{Row, Missing}
 use Rattle.defining.proofs.Puts.{lay-set, lay-last, each-grows}
 
 -- a walk that counts what passes

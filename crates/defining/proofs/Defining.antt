@@ -10,7 +10,8 @@ use borrow.Author.Tests.{ltb-false, leb-true, not-true}
 use Rattle.refusal.specs.declared.Refusal.{Refusal}
 use Rattle.refusal.specs.declared.Refusal.the-variants.{BadOrder, FormNotTaken, NotOwner, Full, NoRoom}
 use Rattle.rules.specs.Lists.{all, any, unique}
-use Rattle.rules.specs.Entries.{distinct, find, put}
+use Rattle.rules.specs.Entries.{distinct, find}
+use Rattle.rules.specs.Arrival.{put}
 use Rattle.rules.specs.Mark.{Mark, begun}
 use Rattle.rules.specs.Number.{numbersIn, wide, badList, untaken}
 use Rattle.rules.specs.Parameters.{Parameters, tooLarge, badName, badParameters}
@@ -41,7 +42,7 @@ use Rattle.order.specs.declared.Itsi.{Itsi}
 use Rattle.order.specs.declared.Listed.{Listed}
 use Rattle.store.specs.declared.Standing.the-variants.{Taken}
 use Rattle.replies.specs.declared.Reply.the-variants.{Done, Refused}
-use Rattle.store.proofs.Form.{law-form}
+use Rattle.store.proofs.FormLaws.{law-form}
 use Rattle.asking.proofs.Listing.{first-none, first-some, reply-none, reply-some}
 use Rattle.replies.proofs.Orders.{tests-pass}
 use Rattle.deleting.proofs.Deletes.{given-present, set-both}

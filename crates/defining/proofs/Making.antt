@@ -10,7 +10,8 @@ use lib.ListN.{length, getD, set, take, drop, replicate, length-set, length-appe
 use lib.Seq.{drop-cons, take-at, drop-at, take-length}
 use borrow.Author.Tests.{ne-eqb, eqb-true}
 use Rattle.rules.specs.Parameters.{noParameters, over, replaced, badName}
-use Rattle.rules.specs.Entries.{find, put}
+use Rattle.rules.specs.Entries.{find}
+use Rattle.rules.specs.Arrival.{put}
 use Rattle.rules.proofs.ListLaws.{eqb-same}
 use Rattle.rules.proofs.Walks.{length-put}
 use Rattle.rules.specs.Ledger.{Group}
@@ -22,7 +23,7 @@ use Rattle.rules.specs.Ledger.{groupAfter}
 use Rattle.defining.specs.Groups.{makeGroup, Fine, FineGroups}
 use Rattle.store.proofs.Groups.{name-few, group-back}
 use Rattle.store.proofs.Rows.{length-items}
-use Rattle.store.proofs.Places.{Row, Missing}
+use Rattle.store.proofs.PlaceLaws.{Row, Missing}
 use Rattle.defining.proofs.Puts.{lay-set, lay-last}
 
 held-over : (new old : Option ℕ) → cond (eqb (heldOf new) 0) (heldOf old) (heldOf new) ≡ heldOf (over new old)

@@ -5,9 +5,11 @@ use mathlib.Core.Bool.{Bool, false}
 use mathlib.Core.List.{List, [], _∷_}
 use lib.Dec.{eqb}
 use lib.ListN.{length}
-use Rattle.rules.specs.Entries.{find, put}
+use Rattle.rules.specs.Entries.{find}
+use Rattle.rules.specs.Arrival.{put}
 use Rattle.rules.specs.Parameters.{badName}
-use Rattle.rules.specs.Ledger.{Group, groupAfter}
+use Rattle.rules.specs.Ledger.{Group}
+use Rattle.rules.specs.Steps.{groupAfter}
 use Rattle.rules.specs.Written.{maxOwners}
 use Rattle.defining.specs.Each.{each}
 

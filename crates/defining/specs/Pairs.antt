@@ -1,7 +1,7 @@
 -- Pairs set one after the other, each in its place or behind the others.
 use Prim.Native.Nat.{ℕ}
 use mathlib.Core.List.{List}
-use Rattle.rules.specs.Entries.{put}
+use Rattle.rules.specs.Arrival.{put}
 use Rattle.rules.specs.Mark.{Mark, fresh}
 use Rattle.rules.specs.Ledger.{Pair, samePair}
 use Rattle.defining.specs.Each.{each}

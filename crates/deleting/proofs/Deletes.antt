@@ -34,7 +34,7 @@ use Rattle.order.specs.declared.Itsi.{Itsi}
 use Rattle.order.specs.declared.Numbers.{Numbers}
 use Rattle.order.specs.declared.Listed.{Listed}
 use Rattle.replies.specs.declared.Reply.the-variants.{Done, Refused}
-use Rattle.store.proofs.Form.{law-form}
+use Rattle.store.proofs.FormLaws.{law-form}
 use Rattle.asking.proofs.Listing.{first-none, first-some, reply-none, reply-some}
 use Rattle.replies.proofs.Orders.{alter-same, tests-pass}
 use borrow.Author.Tests.{ltb-false}

@@ -22,7 +22,7 @@ use Rattle.store.specs.Storage.{Contents, pairOf, pairRow, groupOf, groupRow, o
 use Rattle.order.specs.Row.{lettersOf}
 use Rattle.store.specs.Form.{blank, tidy, roomy, within, isWritten, Sound}
 use Rattle.store.proofs.Rows.{onto-length}
-use Rattle.store.proofs.Form.{room-of, sound}
+use Rattle.store.proofs.FormLaws.{room-of, sound}
 use Rattle.ledger.proofs.Defines.{pairs-back}
 use Rattle.store.proofs.Groups.{name-few, group-back}
 

@@ -1,6 +1,7 @@
 -- Laws of an order's lists and row.
 pub mod Walks
 pub mod ListLaws
+pub mod KeyLaws
 pub mod Words
 pub mod Named
 pub mod Recorded

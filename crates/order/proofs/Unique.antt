@@ -1,77 +1,109 @@
--- Each public function's contract allows one outcome: two results that meet it are equal; two lists read off a record are the same list, given or not.
+-- Any two results that a function's contract allows are equal. `Post` is a contract's claim as the checker reads it.
+-- Assumes nothing.
+use Prim.Native.Nat.{ℕ}
 use mathlib.Core.Path.{_≡_, sym, _∙_}
+use mathlib.Core.List.{List}
+use borrow.Fn.Kinds.{PK, RK, Dens, resT, endedOf}
 use contract.Lifetimes.{Lfts}
-use borrow.Fn.Kinds.{Dens, resT, endedOf}
 use denote.Triple.Clauses.{AtExit}
-use Rattle.order.specs.Lists.{listOf}
-use Rattle.order.proofs.ListLaws.{keys-whole}
-use Rattle.order.proofs.member.Kinds as member-kinds
-use Rattle.order.proofs.member.Reads as member
-use Rattle.order.proofs.bad_list.Kinds as bad-list-kinds
-use Rattle.order.proofs.bad_list.Reads as bad-list
-use Rattle.order.proofs.untaken.Kinds as untaken-kinds
-use Rattle.order.proofs.untaken.Reads as untaken
-use Rattle.order.proofs.keys_in.Kinds as keys-in-kinds
-use Rattle.order.proofs.keys_in.Reads as keys-in
-use Rattle.order.proofs.order_row.Kinds as order-row-kinds
-use Rattle.order.proofs.order_row.Reads as order-row
-use Rattle.order.proofs.group_list.Kinds as group-list-kinds
-use Rattle.order.proofs.group_list.Reads as group-list
-use Rattle.order.proofs.owner_list.Kinds as owner-list-kinds
-use Rattle.order.proofs.owner_list.Reads as owner-list
-use Rattle.order.proofs.radio_list.Kinds as radio-list-kinds
-use Rattle.order.proofs.radio_list.Reads as radio-list
-use Rattle.order.proofs.first_state.Kinds as first-state-kinds
-use Rattle.order.proofs.first_state.Reads as first-state
-use Rattle.order.proofs.owner_keys.Kinds as owner-keys-kinds
-use Rattle.order.proofs.owner_keys.Reads as owner-keys
+use Rattle.order.proofs.lists.member.Kinds as member-kinds
+use Rattle.order.proofs.lists.member.Reads as member
+use Rattle.order.proofs.lists.wide.Kinds as wide-kinds
+use Rattle.order.proofs.lists.wide.Reads as wide
+use Rattle.order.proofs.lists.used_count.Kinds as used-count-kinds
+use Rattle.order.proofs.lists.used_count.Reads as used-count
+use Rattle.order.proofs.lists.bad_list.Kinds as bad-list-kinds
+use Rattle.order.proofs.lists.bad_list.Reads as bad-list
+use Rattle.order.proofs.lists.untaken.Kinds as untaken-kinds
+use Rattle.order.proofs.lists.untaken.Reads as untaken
+use Rattle.order.proofs.keys.group_key.Kinds as group-key-kinds
+use Rattle.order.proofs.keys.group_key.Reads as group-key
+use Rattle.order.proofs.keys.radio_key.Kinds as radio-key-kinds
+use Rattle.order.proofs.keys.radio_key.Reads as radio-key
+use Rattle.order.proofs.keys.groups_in.Kinds as groups-in-kinds
+use Rattle.order.proofs.keys.groups_in.Reads as groups-in
+use Rattle.order.proofs.keys.radios_in.Kinds as radios-in-kinds
+use Rattle.order.proofs.keys.radios_in.Reads as radios-in
+use Rattle.order.proofs.keys.one_group.Kinds as one-group-kinds
+use Rattle.order.proofs.keys.one_group.Reads as one-group
+use Rattle.order.proofs.keys.one_radio.Kinds as one-radio-kinds
+use Rattle.order.proofs.keys.one_radio.Reads as one-radio
+use Rattle.order.proofs.keys.group_count.Kinds as group-count-kinds
+use Rattle.order.proofs.keys.group_count.Reads as group-count
+use Rattle.order.proofs.keys.radio_count.Kinds as radio-count-kinds
+use Rattle.order.proofs.keys.radio_count.Reads as radio-count
+use Rattle.order.proofs.keys.group_at.Kinds as group-at-kinds
+use Rattle.order.proofs.keys.group_at.Reads as group-at
+use Rattle.order.proofs.keys.radio_at.Kinds as radio-at-kinds
+use Rattle.order.proofs.keys.radio_at.Reads as radio-at
+use Rattle.order.proofs.keys.owners_in.Kinds as owners-in-kinds
+use Rattle.order.proofs.keys.owners_in.Reads as owners-in
+use Rattle.order.proofs.record.lists_of.Kinds as lists-of-kinds
+use Rattle.order.proofs.record.lists_of.Reads as lists-of
+use Rattle.order.proofs.record.first_state.Kinds as first-state-kinds
+use Rattle.order.proofs.record.first_state.Reads as first-state
+use Rattle.order.proofs.row.order_row.Kinds as order-row-kinds
+use Rattle.order.proofs.row.order_row.Reads as order-row
 
-module _ (κs : Lfts 1) (a : Dens κs member-kinds.ps) (r r′ : resT member-kinds.r κs .Denot) (s s′ : AtExit (endedOf 1 member-kinds.ps member-kinds.r) κs) where
-  pub member-unique : member.Post κs a r s → member.Post κs a r′ s′ → r ≡ r′
-  member-unique p q = p ∙ sym q
+-- of any arguments, at any exits, what the claim allows is one result
+abbrev pub Unique : {n : ℕ} (ps : List (PK n)) (res : RK n)
+    → ((κs : Lfts n) → Dens κs ps → resT res κs .Denot → AtExit (endedOf n ps res) κs → Type 0) → Type 0
+Unique {n} ps res Post =
+    (κs : Lfts n) (a : Dens κs ps) (r r′ : resT res κs .Denot) (s s′ : AtExit (endedOf n ps res) κs) → Post κs a r s → Post κs a r′ s′ → r ≡ r′
 
-module _ (κs : Lfts 0) (a : Dens κs bad-list-kinds.ps) (r r′ : resT bad-list-kinds.r κs .Denot) (s s′ : AtExit (endedOf 0 bad-list-kinds.ps bad-list-kinds.r) κs) where
-  pub bad-list-unique : bad-list.Post κs a r s → bad-list.Post κs a r′ s′ → r ≡ r′
-  bad-list-unique p q = p ∙ sym q
+pub member-unique : Unique member-kinds.ps member-kinds.r member.Post
+member-unique κs a r r′ s s′ p q = p ∙ sym q
 
-module _ (κs : Lfts 0) (a : Dens κs untaken-kinds.ps) (r r′ : resT untaken-kinds.r κs .Denot) (s s′ : AtExit (endedOf 0 untaken-kinds.ps untaken-kinds.r) κs) where
-  pub untaken-unique : untaken.Post κs a r s → untaken.Post κs a r′ s′ → r ≡ r′
-  untaken-unique p q = p ∙ sym q
+pub wide-unique : Unique wide-kinds.ps wide-kinds.r wide.Post
+wide-unique κs a r r′ s s′ p q = p ∙ sym q
 
-module _ (κs : Lfts 0) (a : Dens κs keys-in-kinds.ps) (r r′ : resT keys-in-kinds.r κs .Denot) (s s′ : AtExit (endedOf 0 keys-in-kinds.ps keys-in-kinds.r) κs) where
-  pub keys-in-unique : keys-in.Post κs a r s → keys-in.Post κs a r′ s′ → r ≡ r′
-  keys-in-unique p q =
-      let x = keys-whole 10 _ (r .key) (r .count) (p .0) (p .1) (p .2) (p .3) in
-      let y = keys-whole 10 _ (r′ .key) (r′ .count) (q .0) (q .1) (q .2) (q .3) in
-      let count = x .0 ∙ sym (y .0) in
-      let key = x .1 ∙ sym (y .1) in
-      λ i. record { count = count i; key = key i }
+pub used-count-unique : Unique used-count-kinds.ps used-count-kinds.r used-count.Post
+used-count-unique κs a r r′ s s′ p q = p ∙ sym q
 
-module _ (κs : Lfts 1) (a : Dens κs order-row-kinds.ps) (r r′ : resT order-row-kinds.r κs .Denot) (s s′ : AtExit (endedOf 1 order-row-kinds.ps order-row-kinds.r) κs) where
-  pub order-row-unique : order-row.Post κs a r s → order-row.Post κs a r′ s′ → r ≡ r′
-  order-row-unique p q = p ∙ sym q
+pub bad-list-unique : Unique bad-list-kinds.ps bad-list-kinds.r bad-list.Post
+bad-list-unique κs a r r′ s s′ p q = p ∙ sym q
 
-module _ (κs : Lfts 0) (a : Dens κs group-list-kinds.ps) (r r′ : resT group-list-kinds.r κs .Denot) (s s′ : AtExit (endedOf 0 group-list-kinds.ps group-list-kinds.r) κs) where
-  pub group-list-unique : group-list.Post κs a r s → group-list.Post κs a r′ s′ → listOf r ≡ listOf r′
-  group-list-unique p q = p ∙ sym q
+pub untaken-unique : Unique untaken-kinds.ps untaken-kinds.r untaken.Post
+untaken-unique κs a r r′ s s′ p q = p ∙ sym q
 
-module _ (κs : Lfts 0) (a : Dens κs owner-list-kinds.ps) (r r′ : resT owner-list-kinds.r κs .Denot) (s s′ : AtExit (endedOf 0 owner-list-kinds.ps owner-list-kinds.r) κs) where
-  pub owner-list-unique : owner-list.Post κs a r s → owner-list.Post κs a r′ s′ → (listOf r ≡ listOf r′) × (r .given ≡ r′ .given)
-  owner-list-unique p q = (p .0 ∙ sym (q .0), p .1 ∙ sym (q .1))
+pub group-key-unique : Unique group-key-kinds.ps group-key-kinds.r group-key.Post
+group-key-unique κs a r r′ s s′ p q = λ i. record { 0 = (p ∙ sym q) i }
 
-module _ (κs : Lfts 0) (a : Dens κs radio-list-kinds.ps) (r r′ : resT radio-list-kinds.r κs .Denot) (s s′ : AtExit (endedOf 0 radio-list-kinds.ps radio-list-kinds.r) κs) where
-  pub radio-list-unique : radio-list.Post κs a r s → radio-list.Post κs a r′ s′ → listOf r ≡ listOf r′
-  radio-list-unique p q = p ∙ sym q
+pub radio-key-unique : Unique radio-key-kinds.ps radio-key-kinds.r radio-key.Post
+radio-key-unique κs a r r′ s s′ p q = λ i. record { 0 = (p ∙ sym q) i }
 
-module _ (κs : Lfts 0) (a : Dens κs first-state-kinds.ps) (r r′ : resT first-state-kinds.r κs .Denot) (s s′ : AtExit (endedOf 0 first-state-kinds.ps first-state-kinds.r) κs) where
-  pub first-state-unique : first-state.Post κs a r s → first-state.Post κs a r′ s′ → r ≡ r′
-  first-state-unique p q = p ∙ sym q
+pub groups-in-unique : Unique groups-in-kinds.ps groups-in-kinds.r groups-in.Post
+groups-in-unique κs a r r′ s s′ p q = p ∙ sym q
 
-module _ (κs : Lfts 0) (a : Dens κs owner-keys-kinds.ps) (r r′ : resT owner-keys-kinds.r κs .Denot) (s s′ : AtExit (endedOf 0 owner-keys-kinds.ps owner-keys-kinds.r) κs) where
-  pub owner-keys-unique : owner-keys.Post κs a r s → owner-keys.Post κs a r′ s′ → r ≡ r′
-  owner-keys-unique p q =
-      let x = keys-whole 11 _ (r .key) (r .count) (p .0) (p .1) (p .2) (p .3) in
-      let y = keys-whole 11 _ (r′ .key) (r′ .count) (q .0) (q .1) (q .2) (q .3) in
-      let count = x .0 ∙ sym (y .0) in
-      let key = x .1 ∙ sym (y .1) in
-      λ i. record { count = count i; key = key i }
+pub radios-in-unique : Unique radios-in-kinds.ps radios-in-kinds.r radios-in.Post
+radios-in-unique κs a r r′ s s′ p q = p ∙ sym q
+
+pub one-group-unique : Unique one-group-kinds.ps one-group-kinds.r one-group.Post
+one-group-unique κs a r r′ s s′ p q = p ∙ sym q
+
+pub one-radio-unique : Unique one-radio-kinds.ps one-radio-kinds.r one-radio.Post
+one-radio-unique κs a r r′ s s′ p q = p ∙ sym q
+
+pub group-count-unique : Unique group-count-kinds.ps group-count-kinds.r group-count.Post
+group-count-unique κs a r r′ s s′ p q = p ∙ sym q
+
+pub radio-count-unique : Unique radio-count-kinds.ps radio-count-kinds.r radio-count.Post
+radio-count-unique κs a r r′ s s′ p q = p ∙ sym q
+
+pub group-at-unique : Unique group-at-kinds.ps group-at-kinds.r group-at.Post
+group-at-unique κs a r r′ s s′ p q = λ i. record { 0 = (p ∙ sym q) i }
+
+pub radio-at-unique : Unique radio-at-kinds.ps radio-at-kinds.r radio-at.Post
+radio-at-unique κs a r r′ s s′ p q = λ i. record { 0 = (p ∙ sym q) i }
+
+pub owners-in-unique : Unique owners-in-kinds.ps owners-in-kinds.r owners-in.Post
+owners-in-unique κs a r r′ s s′ p q = p ∙ sym q
+
+pub lists-of-unique : Unique lists-of-kinds.ps lists-of-kinds.r lists-of.Post
+lists-of-unique κs a r r′ s s′ p q = p ∙ sym q
+
+pub first-state-unique : Unique first-state-kinds.ps first-state-kinds.r first-state.Post
+first-state-unique κs a r r′ s s′ p q = p ∙ sym q
+
+pub order-row-unique : Unique order-row-kinds.ps order-row-kinds.r order-row.Post
+order-row-unique κs a r r′ s s′ p q = p ∙ sym q

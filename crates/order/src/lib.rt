@@ -3,6 +3,7 @@ pub mod keys;
 pub mod lists;
 pub mod record;
 pub mod row;
+mod values;
 
 use rows::MAX_LISTED;
 use rows::MAX_OWNERS;

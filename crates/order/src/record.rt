@@ -3,39 +3,17 @@ use crate::DefineLists;
 use crate::Identity;
 use crate::Listed;
 use crate::Numbers;
+use crate::values::one_down;
+use crate::values::optional;
+use crate::values::widened;
 use layout::PLACES;
 use table::place::*;
-ghost use Prim.Native.Nat.{_+_, _-_, _<_};
+ghost use Prim.Native.Nat.{_+_, _<_};
 ghost use mathlib.Core.Path.{_≡_};
 ghost use Rattle.layout.specs.Frame.{places};
 ghost use Rattle.rules.specs.Mark.{begun};
 ghost use Rattle.rules.specs.Recorded.{optional, optionalYes, acknowledgementRequested};
 ghost use Rattle.order.specs.Recorded.{identityIn, listAt, groupList, ownerList, radioList, listsOf};
-
-// A place's value.
-pub fn widened(value: u32) -> u64
-    ensures { λ r. ⌜ (r ≡ value) × (r < 4294967296) ⌝ }
-{
-    value as u64
-}
-
-// A choice's code: its place holds it one up.
-pub fn one_down(value: u32) -> u64
-    ensures { λ r. ⌜ (r ≡ value - 1) × (r < 4294967296) ⌝ }
-{
-    if value == 0 {
-        return 0;
-    }
-    (value - 1) as u64
-}
-
-// Whether an optional element of a DEFINE record is there; its P-bit is at `k`.
-pub fn optional(place: [u32; PLACES], k: usize) -> bool
-    requires { ⌜ k < places ⌝ }
-    ensures { λ r. ⌜ r ≡ optional place k ⌝ }
-{
-    (place[O_BIT] == 1) & (place[k] == 1)
-}
 
 // Whether an optional element is there and says "yes".
 fn optional_yes(place: [u32; PLACES], k: usize) -> bool

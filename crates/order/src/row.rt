@@ -1,8 +1,8 @@
 // The order's row: the parameters of a DEFINE record and the owners that it gives, as a group's row has them.
 use crate::Owners;
-use crate::record::one_down;
-use crate::record::optional;
-use crate::record::widened;
+use crate::values::one_down;
+use crate::values::optional;
+use crate::values::widened;
 use layout::PLACES;
 use rows::BROADCAST_WORD;
 use rows::CALL_WORD;

@@ -32,7 +32,7 @@ use Rattle.turning.specs.declared.Turn.{Turn}
 use Rattle.order.specs.declared.Gtsi.{Gtsi}
 use Rattle.order.specs.declared.Itsi.{Itsi}
 use Rattle.replies.specs.declared.Reply.the-variants.{Done, Refused}
-use Rattle.store.proofs.Form.{Room}
+use Rattle.store.proofs.FormLaws.{Room}
 use Rattle.store.proofs.Rows.{length-items, lay-plain}
 
 -- ---- the reply, and what is left ----

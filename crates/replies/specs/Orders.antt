@@ -7,10 +7,11 @@ use Rattle.refusal.specs.declared.Refusal.{Refusal}
 use Rattle.refusal.specs.declared.Refusal.the-variants.{NotWritten}
 use Rattle.rules.specs.Order.{Step}
 use Rattle.rules.specs.Refusals.{accepted, showRefusal}
-use Rattle.rules.specs.Ledger.{empty, view, refused, step}
+use Rattle.rules.specs.Ledger.{empty, view}
+use Rattle.rules.specs.Steps.{refused, step}
 use Rattle.order.specs.declared.Gtsi.{Gtsi}
 use Rattle.order.specs.declared.Itsi.{Itsi}
-use Rattle.store.specs.Storage.{Contents, ledgerOf, laid}
+use Rattle.store.specs.Storage.{Contents, placing, ledgerOf, laid}
 use Rattle.store.specs.Form.{roomy, isWritten, Sound}
 use Rattle.replies.specs.declared.Reply.{Reply}
 use Rattle.replies.specs.declared.Reply.the-variants.{Done, Refused}
@@ -24,11 +25,11 @@ abbrev pub judged : Contents → Option Refusal → Option Refusal
 judged c refusal = cond (isWritten c) refusal (some NotWritten)
 
 abbrev pub verdict : Contents → Step → Option Refusal
-verdict c s = judged c (refused (ledgerOf c) s)
+verdict c s = judged c (refused placing (ledgerOf c) s)
 
 -- a refused order changes nothing
 abbrev pub contentsAfter : Contents → Step → Contents
-contentsAfter c s = cond (accepted (verdict c s)) (laid (step (ledgerOf c) s) c) c
+contentsAfter c s = cond (accepted (verdict c s)) (laid (step placing (ledgerOf c) s) c) c
 
 -- ---- what a call is held to ----
 

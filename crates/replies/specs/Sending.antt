@@ -9,9 +9,9 @@ use Rattle.refusal.specs.declared.Refusal.{Refusal}
 use Rattle.rules.specs.Order.{Step}
 use Rattle.rules.specs.Outgoing.{Outgoing}
 use Rattle.rules.specs.Refusals.{accepted}
-use Rattle.rules.specs.Ledger.{sent}
+use Rattle.rules.specs.Steps.{sent}
 use Rattle.store.specs.Lists.{onto}
-use Rattle.store.specs.Storage.{Rows, Contents, ledgerOf}
+use Rattle.store.specs.Storage.{Rows, Contents, placing, ledgerOf}
 use Rattle.replies.specs.Orders.{verdict, contentsAfter}
 use Rattle.replies.specs.declared.Sent.{Sent}
 use Rattle.replies.specs.declared.Sent.the-variants as reply
@@ -21,7 +21,7 @@ orderRow o = o .kind ∷ o .radio ∷ o .group ∷ []
 
 -- what goes out: nothing where the order is refused
 abbrev pub sentOn : Contents → Step → List Outgoing
-sentOn c s = cond (accepted (verdict c s)) (sent (ledgerOf c) s) []
+sentOn c s = cond (accepted (verdict c s)) (sent placing (ledgerOf c) s) []
 
 -- the reply: how many orders, or the refusal
 abbrev pub sentReply : Option Refusal → ℕ → Sent

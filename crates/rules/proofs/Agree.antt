@@ -1,122 +1,125 @@
--- After any history the abstract ledger says what the history means: one path, from which every reply follows.
+-- After any history the abstract ledger says what the history means, under any lawful placing: one path, from which every reply follows.
 use Prim.Native.Nat.{ℕ}
 use mathlib.Core.Path.{_≡_, refl, sym, _∙_, ap, subst}
 use mathlib.Core.Bool.{cond}
 use mathlib.Core.List.{List, []}
-use lib.Dec.{eqb}
 use lib.ListN.{length}
 use Rattle.rules.specs.Number.{key}
 use Rattle.rules.specs.Order.{Step}
-use Rattle.rules.specs.Effect.{Effect, effect}
 use Rattle.rules.specs.World.{World, membersIn, ownersIn, groupTotal, pairTotal, Tally}
+use Rattle.rules.specs.Effect.{Effect, effect}
 use Rattle.rules.specs.Change.{after}
 use Rattle.rules.specs.Outgoing.{outgoing}
 use Rattle.rules.specs.Refusals.{accepted, refusal}
 use Rattle.rules.specs.Replies.{listing, showing}
-use Rattle.rules.specs.Ledger.{samePair, Ledger, view, members, apply, tally, refused, step, sent, list, show}
+use Rattle.rules.specs.Ledger.{Ledger, view, members, list, show}
+use Rattle.rules.specs.Placing.{Placing, Lawful}
+use Rattle.rules.specs.Steps.{apply, tally, refused, step, sent}
 use Rattle.rules.specs.History.{History, start, _then_, Named, named, namedIn, tallyIn, judge, taken, Past, onward, past}
 use Rattle.rules.specs.History.{world, refusalIn, sentIn, listIn, showIn}
 use Rattle.rules.specs.Run.{run}
 use Rattle.rules.proofs.Tests.{split}
-use Rattle.rules.proofs.EntryLaws.{Single}
-use Rattle.rules.proofs.Effects.{view-after, single-groups, single-pairs}
-use Rattle.rules.proofs.Totals.{Within, within-more, within-after, members-agree, owners-agree, groups-total, pairs-total}
+use Rattle.rules.proofs.Effects.{Standing, standing-empty, groups-single, pairs-single, standing-apply, view-after}
+use Rattle.rules.proofs.Totals.{Within, within-more, within-after, within-history, members-agree, owners-agree, groups-total, pairs-total}
 
--- what stays true along a run: what stands was named, no group and no pair stands twice
-pub record Kept (l : Ledger) (n : Named) : Type 0 where
-  pub within : Within (view l) n
-  pub groups : Single eqb (l .groups)
-  pub pairs : Single samePair (l .pairs)
+module _ (p : Placing) (laws : Lawful p) where
+  -- ---- one step, on a ledger in the placing's form that holds numbers named alone ----
 
-kept-more : (l : Ledger) (e : Effect) (n : Named) → Kept l n → Kept l (named e n)
-kept-more l e n k = record { within = within-more (view l) e n (k .within); groups = k .groups; pairs = k .pairs }
+  module _ (l : Ledger) (s : Standing p l) (n : Named) (w : Within (view l) n) where
+    -- what is counted and listed is what the history says
+    tally-agree : (e : Effect) → tally p l e ≡ tallyIn (view l) (named e n) e
+    tally-agree e = λ i. record { members = λ g. ms g i; groups = ng i; pairs = np i }
+      where
+        l′ : Ledger
+        l′ = apply p l e
 
-kept-apply : (l : Ledger) (e : Effect) (n : Named) → Kept l n → Kept (apply l e) (named e n)
-kept-apply l e n k = record {
-  within = subst (λ (w : World). Within w (named e n)) (sym (view-after l e (k .pairs))) (within-after (view l) e n (k .within));
-  groups = single-groups l e (k .groups);
-  pairs = single-pairs l e (k .pairs);
-}
+        n′ : Named
+        n′ = named e n
 
--- what is counted and listed is what the history says
-tally-agree : (l : Ledger) (e : Effect) (n : Named) → Kept l n → tally l e ≡ tallyIn (view l) (named e n) e
-tally-agree l e n k = λ i. record { members = λ g. ms g i; groups = ng i; pairs = np i }
-  where
-    n′ : Named
-    n′ = named e n
+        says : view l′ ≡ after (view l) e
+        says = view-after p laws l s e
 
-    k′ : Kept (apply l e) n′
-    k′ = kept-apply l e n k
+        s′ : Standing p l′
+        s′ = standing-apply p laws l s e
 
-    ms : (g : ℕ) → members l g ≡ membersIn (view l) (n′ .radios) g
-    ms = members-agree l n′ (within-more (view l) e n (k .within))
+        w′ : Within (view l′) n′
+        w′ = subst (λ (x : World). Within x n′) (sym says) (within-after (view l) e n w)
 
-    ng : length (apply l e .groups) ≡ groupTotal (after (view l) e) (n′ .groups)
-    ng = groups-total (apply l e) n′ (k′ .within) (k′ .groups) ∙ ap (λ (w : World). groupTotal w (n′ .groups)) (view-after l e (k .pairs))
+        ms : (g : ℕ) → members l g ≡ membersIn (view l) (n′ .radios) g
+        ms = members-agree l n′ (within-more (view l) e n w)
 
-    np : length (apply l e .pairs) ≡ pairTotal (after (view l) e) (n′ .groups) (n′ .radios)
-    np = pairs-total (apply l e) n′ (k′ .within) (k′ .pairs) ∙ ap (λ (w : World). pairTotal w (n′ .groups) (n′ .radios)) (view-after l e (k .pairs))
+        ng : length (l′ .groups) ≡ groupTotal (after (view l) e) (n′ .groups)
+        ng = groups-total l′ n′ w′ (groups-single p laws l′ s′) ∙ ap (λ (x : World). groupTotal x (n′ .groups)) says
 
--- a step's refusal is what the history says
-judge-agree : (l : Ledger) (s : Step) (n : Named) → Kept l n → refused l s ≡ judge (view l) (named (effect (view l) s) n) s
-judge-agree l s n k = ap (λ (t : Tally). refusal (view l) t s) (tally-agree l (effect (view l) s) n k)
+        np : length (l′ .pairs) ≡ pairTotal (after (view l) e) (n′ .groups) (n′ .radios)
+        np = pairs-total l′ n′ w′ (pairs-single p laws l′ s′) ∙ ap (λ (x : World). pairTotal x (n′ .groups) (n′ .radios)) says
 
-kept-step : (l : Ledger) (s : Step) (n : Named) → Kept l n → Kept (step l s) (named (effect (view l) s) n)
-kept-step l s n k = split (accepted (refused l s))
-    (λ e. rw e (kept-apply l (effect (view l) s) n k))
-    (λ e. rw e (kept-more l (effect (view l) s) n k))
+    -- a step's refusal is what the history says
+    judge-agree : (o : Step) → refused p l o ≡ judge (view l) (named (effect (view l) o) n) o
+    judge-agree o = ap (λ (t : Tally). refusal (view l) t o) (tally-agree (effect (view l) o))
 
-taken-agree : (l : Ledger) (s : Step) (n : Named) → Kept l n → view (step l s) ≡ taken (view l) (named (effect (view l) s) n) s
-taken-agree l s n k = split (accepted (refused l s))
-    (λ e. rw (← judge-agree l s n k, e) (view-after l (effect (view l) s) (k .pairs)))
-    (λ e. rw (← judge-agree l s n k, e))
+    -- what the step makes of it is what the history says
+    taken-agree : (o : Step) → view (step p l o) ≡ taken (view l) (named (effect (view l) o) n) o
+    taken-agree o = split (accepted (refused p l o))
+        (λ e. rw (← judge-agree o, e) (view-after p laws l s (effect (view l) o)))
+        (λ e. rw (← judge-agree o, e))
 
--- a ledger that says what stands, and in which the above stays true
-pub record Agrees (l : Ledger) (p : Past) : Type 0 where
-  pub says : view l ≡ p .world
-  pub kept : Kept l (p .named)
+    standing-step : (o : Step) → Standing p (step p l o)
+    standing-step o = split (accepted (refused p l o))
+        (λ e. rw e (standing-apply p laws l s (effect (view l) o)))
+        (λ e. rw e s)
 
-step-agrees : (l : Ledger) (s : Step) (p : Past) → Agrees l p → Agrees (step l s) (onward p s)
-step-agrees l s p a = subst (λ (w : World). Agrees (step l s) (onward (record { world = w; named = p .named }) s)) (a .says)
-    (record { says = taken-agree l s (p .named) (a .kept); kept = kept-step l s (p .named) (a .kept) })
+  -- ---- any run ----
 
-run-agrees : (h : History) → Agrees (run h) (past h)
-run-agrees start = record {
-  says = refl;
-  kept = record {
-    within = record { stands = λ g e. e; groups = λ g r e. e; radios = λ g r e. e; owners = λ g a e. e };
-    groups = tt;
-    pairs = tt;
-  };
-}
-run-agrees (h then s) = step-agrees (run h) s (past h) (run-agrees h)
+  -- a ledger in the placing's form that says what stands
+  record Agrees (l : Ledger) (q : Past) : Type 0 where
+    says : view l ≡ q .world
+    standing : Standing p l
 
--- after any history the ledger says what the history means
-pub run-agree : (h : History) → view (run h) ≡ world h
-run-agree h = run-agrees h .says
+  step-agrees : (l : Ledger) (q : Past) (o : Step) → Within (q .world) (q .named) → Agrees l q → Agrees (step p l o) (onward q o)
+  step-agrees l q o w a =
+      subst (λ (x : World). Within x (q .named) → Agrees (step p l o) (onward (record { world = x; named = q .named }) o)) (a .says)
+      (λ w. record { says = taken-agree l (a .standing) (q .named) w o; standing = standing-step l (a .standing) (q .named) w o }) w
 
-pub run-kept : (h : History) → Kept (run h) (namedIn h)
-run-kept h = run-agrees h .kept
+  run-agrees : (h : History) → Agrees (run p h) (past h)
+  run-agrees start = record { says = refl; standing = standing-empty p laws }
+  run-agrees (h then s) = step-agrees (run p h) (past h) s (within-history h) (run-agrees h)
 
--- every step's refusal is the history's
-pub refusal-agree : (h : History) (s : Step) → refused (run h) s ≡ refusalIn h s
-refusal-agree h s = judge-agree (run h) s (namedIn h) (run-kept h) ∙ ap (λ (w : World). judge w (named (effect w s) (namedIn h)) s) (run-agree h)
+  -- after any history the ledger says what the history means
+  pub run-agree : (h : History) → view (run p h) ≡ world h
+  run-agree h = run-agrees h .says
 
--- what goes out is the history's
-pub sent-agree : (h : History) (s : Step) → sent (run h) s ≡ sentIn h s
-sent-agree h s =
-    (λ i. cond (accepted (refusal-agree h s i))
-    (outgoing (view (run h)) (tally-agree (run h) (effect (view (run h)) s) (namedIn h) (run-kept h) i) s) [])
-    ∙ ap (λ (w : World). cond (accepted (refusalIn h s)) (outgoing w (tallyIn w (named (effect w s) (namedIn h)) (effect w s)) s) []) (run-agree h)
+  run-standing : (h : History) → Standing p (run p h)
+  run-standing h = run-agrees h .standing
 
--- the reply to a list is the history's
-pub list-agree : (h : History) (asker g room : ℕ) → list (run h) asker g room ≡ listIn h asker g room
-list-agree h asker g room =
-    ap (λ (radios : List ℕ). listing (view (run h)) asker g radios room) (members-agree (run h) (namedIn h) (run-kept h .within) (key g))
-    ∙ ap (λ (w : World). listing w asker g (membersIn w (namedIn h .radios) (key g)) room) (run-agree h)
+  run-within : (h : History) → Within (view (run p h)) (namedIn h)
+  run-within h = subst (λ (w : World). Within w (namedIn h)) (sym (run-agree h)) (within-history h)
 
--- and so is the reply to a show
-pub show-agree : (h : History) (asker g : ℕ) → show (run h) asker g ≡ showIn h asker g
-show-agree h asker g =
-    ap (λ (owners : List ℕ). showing (view (run h)) asker g owners) (owners-agree (run h) (namedIn h) (run-kept h .within) (key g))
-    ∙ ap (λ (w : World). showing w asker g (ownersIn w (namedIn h .owners) (key g))) (run-agree h)
+  -- every step's refusal is the history's
+  pub refusal-agree : (h : History) (s : Step) → refused p (run p h) s ≡ refusalIn h s
+  refusal-agree h s =
+      judge-agree (run p h) (run-standing h) (namedIn h) (run-within h) s
+      ∙ ap (λ (w : World). judge w (named (effect w s) (namedIn h)) s) (run-agree h)
+
+  -- what goes out is the history's
+  pub sent-agree : (h : History) (s : Step) → sent p (run p h) s ≡ sentIn h s
+  sent-agree h s =
+      let counted = tally-agree (run p h) (run-standing h) (namedIn h) (run-within h) (effect (view (run p h)) s) in
+      (λ i. cond (accepted (refusal-agree h s i)) (outgoing (view (run p h)) (counted i) s) [])
+      ∙ ap (λ (w : World). cond (accepted (refusalIn h s)) (outgoing w (tallyIn w (named (effect w s) (namedIn h)) (effect w s)) s) []) (run-agree h)
+
+  -- the reply to a list is the history's
+  pub list-agree : (h : History) (asker g room : ℕ) → list (run p h) asker g room ≡ listIn h asker g room
+  list-agree h asker g room =
+      ap (λ (radios : List ℕ). listing (view (run p h)) asker g radios room) (members-agree (run p h) (namedIn h) (run-within h) (key g))
+      ∙ ap (λ (w : World). listing w asker g (membersIn w (namedIn h .radios) (key g)) room) (run-agree h)
+
+  -- and so is the reply to a show
+  pub show-agree : (h : History) (asker g : ℕ) → show (run p h) asker g ≡ showIn h asker g
+  show-agree h asker g =
+      ap (λ (owners : List ℕ). showing (view (run p h)) asker g owners) (owners-agree (run p h) (namedIn h) (run-within h) (key g))
+      ∙ ap (λ (w : World). showing w asker g (ownersIn w (namedIn h .owners) (key g))) (run-agree h)
+
+-- two placings say the same
+pub same-world : (p q : Placing) → Lawful p → Lawful q → (h : History) → view (run p h) ≡ view (run q h)
+same-world p q a b h = run-agree p a h ∙ sym (run-agree q b h)

@@ -20,9 +20,12 @@ use Rattle.rules.specs.Replies.{entries}
 use Rattle.rules.specs.Ledger.{Group, group, ownersOf, parametersOf, samePair, list}
 use Rattle.rules.specs.Entries.{find}
 use Rattle.rules.specs.History.{History, _then_, world, stands, owner, mark, radiosIn, refusalIn}
+use Rattle.rules.specs.Placing.{Placing, Lawful}
+use Rattle.rules.specs.Arrival.{byArrival}
 use Rattle.rules.specs.Run.{run}
 use Rattle.rules.proofs.Tests.{clash, and-in}
 use Rattle.rules.proofs.ListLaws.{mem-once, mem-head, no-member}
+use Rattle.rules.proofs.Arrival.{by-arrival}
 use Rattle.rules.proofs.Agree.{run-agree}
 use Rattle.rules.proofs.Written.{run-form}
 use Rattle.rules.proofs.Demand.{radios-marked, list-exact, exactly-unique}
@@ -34,11 +37,11 @@ pub record Bare (w : World) (g : ℕ) : Type 0 where
   pub marks : (r : ℕ) → w .mark g r ≡ none
 
 pub gone-bare : (h : History) (g : ℕ) → stands h g ≡ false → Bare (world h) g
-gone-bare h g = subst (λ (w : World). w .stands g ≡ false → Bare w g) (run-agree h)
+gone-bare h g = subst (λ (w : World). w .stands g ≡ false → Bare w g) (run-agree byArrival by-arrival h)
     (λ e. record {
-      owners = λ a. none-owns (group (run h) g) a e;
-      parameters = none-has (group (run h) g) e;
-      marks = λ r. unmarked r (find samePair (run h .pairs) (g, r)) refl e;
+      owners = λ a. none-owns (group (run byArrival h) g) a e;
+      parameters = none-has (group (run byArrival h) g) e;
+      marks = λ r. unmarked r (find samePair (run byArrival h .pairs) (g, r)) refl e;
     })
   where
     none-owns : (o : Option Group) (a : ℕ) → present o ≡ false → mem a (ownersOf o) ≡ false
@@ -49,9 +52,9 @@ gone-bare h g = subst (λ (w : World). w .stands g ≡ false → Bare w g) (run-
     none-has none e = refl
     none-has (some x) e = clash e
 
-    unmarked : (r : ℕ) (o : Option Mark) → find samePair (run h .pairs) (g, r) ≡ o → present (group (run h) g) ≡ false → o ≡ none
+    unmarked : (r : ℕ) (o : Option Mark) → find samePair (run byArrival h .pairs) (g, r) ≡ o → present (group (run byArrival h) g) ≡ false → o ≡ none
     unmarked r none q e = refl
-    unmarked r (some m) q e = clash (sym (run-form h .there g r (ap present q)) ∙ e)
+    unmarked r (some m) q e = clash (sym (run-form byArrival by-arrival h .there g r (ap present q)) ∙ e)
 
 -- an accepted step has its effect
 pub world-taken : (h : History) (s : Step) → refusalIn h s ≡ none → world (h then s) ≡ after (world h) (effect (world h) s)
@@ -87,11 +90,11 @@ module _ (h : History) (o : Define) (room g : ℕ)
       made-owner a ∙ mem-once a (a ∷ numbersIn (o .owners)) ∙ mem-head a (numbersIn (o .owners))
 
 -- a define that assigns none makes an empty group: the asker's list holds nothing, and needs no room
-pub made-empty : (h : History) (o : Define) (room g : ℕ) → stands h (key g) ≡ false → refusalIn h (define o room) ≡ none
+pub made-empty : (p : Placing) → Lawful p → (h : History) (o : Define) (room g : ℕ) → stands h (key g) ≡ false → refusalIn h (define o room) ≡ none
     → mem (key g) (defineGroups o) ≡ true → o .radios ≡ none
-    → (room′ : ℕ) → list (run (h then define o room)) (o .asker) g room′ ≡ record { refused = none; entries = [] }
-made-empty h o room g gone accepts names n room′ =
-    let e = list-exact h′ (o .asker) g room′ (made-asker h o room (key g) gone accepts names) (rw no-radios (omega arith)) in
+    → (room′ : ℕ) → list (run p (h then define o room)) (o .asker) g room′ ≡ record { refused = none; entries = [] }
+made-empty p laws h o room g gone accepts names n room′ =
+    let e = list-exact p laws h′ (o .asker) g room′ (made-asker h o room (key g) gone accepts names) (rw no-radios (omega arith)) in
     λ i. record { refused = e .0 i; entries = exactly-unique h′ (key g) _ [] (e .1) nothing-listed i }
   where
     h′ : History
@@ -107,9 +110,9 @@ made-empty h o room g gone accepts names n room′ =
     nothing-listed = record { rises = tt; says = λ r. sym (ap told (unmarked r)) }
 
 -- a group deleted and made again starts empty, whatever radios it had
-pub again-empty : (h : History) (d : Delete) (o : Define) (g room room′ room″ : ℕ)
+pub again-empty : (p : Placing) → Lawful p → (h : History) (d : Delete) (o : Define) (g room room′ room″ : ℕ)
     → refusalIn h (delete d room) ≡ none → d .delete ≡ true → mem (key g) (deleteGroups d) ≡ true
     → refusalIn (h then delete d room) (define o room′) ≡ none → mem (key g) (defineGroups o) ≡ true → o .radios ≡ none
-    → list (run (h then delete d room then define o room′)) (o .asker) g room″ ≡ record { refused = none; entries = [] }
-again-empty h d o g room room′ room″ e y n e′ n′ r =
-    made-empty (h then delete d room) o room′ g (deleted-gone h d room (key g) e y n) e′ n′ r room″
+    → list (run p (h then delete d room then define o room′)) (o .asker) g room″ ≡ record { refused = none; entries = [] }
+again-empty p laws h d o g room room′ room″ e y n e′ n′ r =
+    made-empty p laws (h then delete d room) o room′ g (deleted-gone h d room (key g) e y n) e′ n′ r room″

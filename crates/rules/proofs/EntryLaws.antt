@@ -1,15 +1,17 @@
--- Entries: what is found after each change, and that no key stands twice.
-use Prim.Native.Nat.{_≤_}
+-- Entries: what is found after a change at their places, and that no key stands twice.
+use Prim.Native.Nat.{ℕ, _≤_}
 use mathlib.Core.Path.{_≡_, refl, sym, _∙_, ap}
-use mathlib.Core.Bool.{Bool, true, false, cond, not}
-use mathlib.Core.List.{List, [], _∷_}
+use mathlib.Core.Bool.{Bool, true, false, not}
+use mathlib.Core.List.{List, [], _∷_, map}
 use mathlib.Core.Option.{Option, none, some}
+use lib.Dec.{eqb}
 use lib.ListN.{length}
 use native.Mathlib.Omega.{arith}
 use borrow.Author.Tests.{not-true}
-use Rattle.rules.specs.Lists.{any, all, present, turned}
-use Rattle.rules.specs.Entries.{find, distinct, put, puts, keepKeys, entry, alter}
+use Rattle.rules.specs.Lists.{all, present, turned, mem}
+use Rattle.rules.specs.Entries.{find, distinct, entry, alter}
 use Rattle.rules.proofs.Tests.{split, clash, and-in, and-l, and-r}
+use Rattle.rules.proofs.ListLaws.{Once}
 
 module _ {K : Type 0} (same : K → K → Bool) (sound : (a b : K) → same a b ≡ true → a ≡ b) (itself : (a : K) → same a a ≡ true) where
   pub flip-false : (a b : K) → same a b ≡ false → same b a ≡ false
@@ -21,35 +23,7 @@ module _ {K X : Type 0} (same : K → K → Bool) where
   Single [] = Unit {0}
   Single (e ∷ l) = (present (find same l (e .0)) ≡ false) × Single l
 
-module _ {K X : Type 0} (same : K → K → Bool) (sound : (a b : K) → same a b ≡ true → a ≡ b) (itself : (a : K) → same a a ≡ true) where
-  pub find-put : (l : List (K × X)) (k j : K) (v : X) → find same (put same l k v) j ≡ cond (same j k) (some v) (find same l j)
-  find-put [] k j v = refl
-  find-put (e ∷ l) k j v = split (same k (e .0))
-      (λ p. split (same j k)
-      (λ q. cc (sound k (e .0) p))
-      (λ q. cc (sound k (e .0) p)))
-      (λ p. split (same j k)
-      (λ q. cc (sound j k q, find-put l k j v))
-      (λ q. cc (find-put l k j v)))
-
-  pub find-puts : (l : List (K × X)) (ks : List K) (f : K → X) (j : K) → find same (puts same l ks f) j ≡ cond (any (same j) ks) (some (f j)) (find same l j)
-  find-puts l [] f j = refl
-  find-puts l (k ∷ ks) f j = split (same j k)
-      (λ p. split (any (same j) ks)
-      (λ q. cc (find-puts (put same l k (f k)) ks f j))
-      (λ q. cc (find-puts (put same l k (f k)) ks f j, find-put l k j (f k), sound j k p)))
-      (λ p. cc (find-puts (put same l k (f k)) ks f j, find-put l k j (f k)))
-
-  pub find-keep : (p : K → Bool) (l : List (K × X)) (j : K) → find same (keepKeys p l) j ≡ cond (p j) (find same l j) none
-  find-keep p [] j = split (p j) (λ a. cc) (λ a. cc)
-  find-keep p (e ∷ l) j = split (p (e .0))
-      (λ a. split (same j (e .0))
-      (λ b. cc (sound j (e .0) b))
-      (λ b. cc (find-keep p l j)))
-      (λ a. split (same j (e .0))
-      (λ b. cc (sound j (e .0) b, find-keep p l j))
-      (λ b. cc (find-keep p l j)))
-
+module _ {K X : Type 0} (same : K → K → Bool) where
   -- nothing is found where the key is not there
   absent-alter : (f : K → X → Option X) (l : List (K × X)) (j : K) → present (find same l j) ≡ false → find same (alter f l) j ≡ none
   absent-alter f [] j h = refl
@@ -61,36 +35,6 @@ module _ {K X : Type 0} (same : K → K → Bool) (sound : (a b : K) → same a 
       go none a h = h
       go (some v) a h = cc
 
-  pub find-alter : (f : K → X → Option X) (l : List (K × X)) (j : K) → Single same l → find same (alter f l) j ≡ turned (f j) (find same l j)
-  find-alter f [] j s = refl
-  find-alter f (e ∷ l) j s = split (same j (e .0))
-      (λ a. at (sound j (e .0) a) a (f (e .0) (e .1)) refl)
-      (λ a. off a (f (e .0) (e .1)) (find-alter f l j (s .1)))
-    where
-      at : j ≡ e .0 → same j (e .0) ≡ true → (o : Option X) → f (e .0) (e .1) ≡ o → find same (entry (e .0) o (alter f l)) j ≡ turned (f j) (find same (e ∷ l) j)
-      at q a none h = cc (absent-alter f l (e .0) (s .0))
-      at q a (some v) h = cc
-
-      off : same j (e .0) ≡ false → (o : Option X) → find same (alter f l) j ≡ turned (f j) (find same l j) → find same (entry (e .0) o (alter f l)) j ≡ turned (f j) (find same (e ∷ l) j)
-      off a none h = cc
-      off a (some v) h = cc
-
-  pub single-put : (l : List (K × X)) (k : K) (v : X) → Single same l → Single same (put same l k v)
-  single-put [] k v s = (refl, tt)
-  single-put (e ∷ l) k v s = split (same k (e .0))
-      (λ p. rw p s)
-      (λ p. rw p (cc (find-put l k (e .0) v, flip-false same sound itself k (e .0) p), single-put l k v (s .1)))
-
-  pub single-puts : (l : List (K × X)) (ks : List K) (f : K → X) → Single same l → Single same (puts same l ks f)
-  single-puts l [] f s = s
-  single-puts l (k ∷ ks) f s = single-puts (put same l k (f k)) ks f (single-put l k (f k) s)
-
-  pub single-keep : (p : K → Bool) (l : List (K × X)) → Single same l → Single same (keepKeys p l)
-  single-keep p [] s = tt
-  single-keep p (e ∷ l) s = split (p (e .0))
-      (λ a. rw a (cc (find-keep p l (e .0)), single-keep p l (s .1)))
-      (λ a. rw a (single-keep p l (s .1)))
-
   pub single-alter : (f : K → X → Option X) (l : List (K × X)) → Single same l → Single same (alter f l)
   single-alter f [] s = tt
   single-alter f (e ∷ l) s = go (f (e .0) (e .1)) (single-alter f l (s .1))
@@ -98,6 +42,37 @@ module _ {K X : Type 0} (same : K → K → Bool) (sound : (a b : K) → same a 
       go : (o : Option X) → Single same (alter f l) → Single same (entry (e .0) o (alter f l))
       go none h = h
       go (some v) h = (ap present (absent-alter f l (e .0) (s .0)), h)
+
+module _ {K X : Type 0} (same : K → K → Bool) (sound : (a b : K) → same a b ≡ true → a ≡ b) where
+  pub find-alter : (f : K → X → Option X) (l : List (K × X)) (j : K) → Single same l → find same (alter f l) j ≡ turned (f j) (find same l j)
+  find-alter f [] j s = refl
+  find-alter f (e ∷ l) j s = split (same j (e .0))
+      (λ a. at (sound j (e .0) a) a (f (e .0) (e .1)) refl)
+      (λ a. off a (f (e .0) (e .1)) (find-alter f l j (s .1)))
+    where
+      at : j ≡ e .0 → same j (e .0) ≡ true → (o : Option X) → f (e .0) (e .1) ≡ o
+          → find same (entry (e .0) o (alter f l)) j ≡ turned (f j) (find same (e ∷ l) j)
+      at q a none h = cc (absent-alter same f l (e .0) (s .0))
+      at q a (some v) h = cc
+
+      off : same j (e .0) ≡ false → (o : Option X) → find same (alter f l) j ≡ turned (f j) (find same l j)
+          → find same (entry (e .0) o (alter f l)) j ≡ turned (f j) (find same (e ∷ l) j)
+      off a none h = cc
+      off a (some v) h = cc
+
+-- ---- the numbers under which entries stand ----
+
+module _ {X : Type 0} where
+  abbrev pub keys : List (ℕ × X) → List ℕ
+  keys l = map (λ (e : ℕ × X). e .0) l
+
+  pub mem-keys : (n : ℕ) (l : List (ℕ × X)) → mem n (keys l) ≡ present (find eqb l n)
+  mem-keys n [] = refl
+  mem-keys n (e ∷ l) = split (eqb n (e .0)) (λ a. cc) (λ a. cc (mem-keys n l))
+
+  pub once-keys : (l : List (ℕ × X)) → Single eqb l → Once (keys l)
+  once-keys [] h = tt
+  once-keys (e ∷ l) h = (mem-keys (e .0) l ∙ h .0, once-keys l (h .1))
 
 -- ---- tests over all entries ----
 

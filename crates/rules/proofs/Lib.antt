@@ -1,6 +1,10 @@
 pub mod Tests
 pub mod ListLaws
 pub mod EntryLaws
+pub mod Walks
+pub mod Pairs
+pub mod Puts
+pub mod Arrival
 pub mod Effects
 pub mod Totals
 pub mod Agree
@@ -10,7 +14,6 @@ pub mod Listing
 pub mod Demand
 pub mod Anew
 pub mod LawOrder
-pub mod Walks
 pub mod Steps
 pub mod Recorded
 pub mod Laid

@@ -1,13 +1,13 @@
 -- The list that a walk over the pairs makes is the list of the rules; and only one rising list says the same of every radio.
 use Prim.Native.Nat.{ℕ, suc, _≤_, _<_}
 use mathlib.Core.Path.{_≡_, refl, sym, _∙_, ap, subst}
-use mathlib.Core.Bool.{Bool, true, false, cond}
+use mathlib.Core.Bool.{Bool, false, cond}
 use mathlib.Core.List.{List, [], _∷_}
 use mathlib.Core.Option.{Option, none, some}
 use lib.Dec.{eqb, ltb}
 use lib.ListN.{length}
 use native.Mathlib.Omega.{arith}
-use borrow.Author.Tests.{eqb-true, eqb-false, ltb-true, ltb-false, ne-eqb}
+use borrow.Author.Tests.{eqb-true, ltb-true, ltb-false, ne-eqb}
 use Rattle.rules.specs.Lists.{present, insertBy, inOrder, mem, Above, Rising}
 use Rattle.rules.specs.Entries.{find}
 use Rattle.rules.specs.Mark.{Mark, stateOf}
@@ -17,13 +17,13 @@ use Rattle.rules.specs.Ledger.{Pair, samePair, Ledger, view, radiosOf, m
 use Rattle.rules.specs.Listing.{gathered, listedIn}
 use Rattle.rules.specs.Demand.{told, entryRadios}
 use Rattle.rules.proofs.Tests.{split, clash}
-use Rattle.rules.proofs.ListLaws.{eqb-same, Once, mem-rising, rising-order, rising-rising, above-trans}
-use Rattle.rules.proofs.EntryLaws.{Single}
+use Rattle.rules.proofs.ListLaws.{eqb-same, mem-rising, rising-order, rising-rising, above-trans}
+use Rattle.rules.proofs.EntryLaws.{Single, once-keys}
 use Rattle.rules.proofs.Totals.{mem-radios}
 
 -- ---- rising entries go by what is found ----
 
-pub above-none : (x : ℕ) (l : List Entry) → Above x (entryRadios l) → find eqb l x ≡ none
+above-none : (x : ℕ) (l : List Entry) → Above x (entryRadios l) → find eqb l x ≡ none
 above-none x [] a = refl
 above-none x (e ∷ l) a = cc (ne-eqb x (e .0) (apart x (e .0) (a .0)), above-none x l (a .1))
   where
@@ -79,14 +79,6 @@ entries-say w g radios h r =
 abbrev radioOf : Entry → ℕ
 radioOf e = e .0
 
-mem-find : (l : List Entry) (r : ℕ) → mem r (entryRadios l) ≡ present (find eqb l r)
-mem-find [] r = refl
-mem-find (e ∷ l) r = split (eqb r (e .0)) (λ a. cc) (λ a. cc (mem-find l r))
-
-once-entries : (l : List Entry) → Single eqb l → Once (entryRadios l)
-once-entries [] s = tt
-once-entries (e ∷ l) s = (mem-find l (e .0) ∙ s .0, once-entries l (s .1))
-
 find-insert : (x : Entry) (l : List Entry) (r : ℕ) → present (find eqb l (x .0)) ≡ false
     → find eqb (insertBy radioOf x l) r ≡ cond (eqb r (x .0)) (some (x .1)) (find eqb l r)
 find-insert x [] r n = refl
@@ -131,7 +123,7 @@ gathered-single g (e ∷ l) s = split (eqb g (e .0 .0))
 -- where no pair stands twice, the walk makes the list of the rules
 pub listed-members : (l : Ledger) (g : ℕ) → Single samePair (l .pairs) → listedIn g (l .pairs) ≡ entries (view l) (members l g) g
 listed-members l g s = same-entries (listedIn g (l .pairs)) (entries (view l) (members l g) g)
-    (rising-order radioOf (gathered g (l .pairs)) (once-entries (gathered g (l .pairs)) (gathered-single g (l .pairs) s)))
+    (rising-order radioOf (gathered g (l .pairs)) (once-keys (gathered g (l .pairs)) (gathered-single g (l .pairs) s)))
     (subst Rising (sym (entries-radios (view l) g (members l g))) (rising-rising (radiosOf g (l .pairs))))
     (λ r. find-order (gathered g (l .pairs)) (gathered-single g (l .pairs) s) r ∙ gathered-find g (l .pairs) r
     ∙ sym (entries-say (view l) g (members l g) (λ r. mem-rising r (radiosOf g (l .pairs)) ∙ mem-radios g r (l .pairs)) r))

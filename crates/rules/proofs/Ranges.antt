@@ -37,7 +37,8 @@ keys-narrow : (l : List Identity) → any badIdentity l ≡ false → any (λ (i
     → (x : ℕ) → mem x (map keyOf l) ≡ true → wideKey x ≡ false
 keys-narrow [] b f x e = clash (sym e)
 keys-narrow (i ∷ l) b f x e = split (eqb x (keyOf i))
-    (λ q. ap wideKey (eqb-true x (keyOf i) q) ∙ key-wide (i .ssi) ∙ ssi-narrow i (any-no badIdentity i l b .0) (any-no (λ (i : Identity). eqb (i .form) 0) i l f .0))
+    (λ q. ap wideKey (eqb-true x (keyOf i) q) ∙ key-wide (i .ssi)
+    ∙ ssi-narrow i (any-no badIdentity i l b .0) (any-no (λ (i : Identity). eqb (i .form) 0) i l f .0))
     (λ q. keys-narrow l (any-no badIdentity i l b .1) (any-no (λ (i : Identity). eqb (i .form) 0) i l f .1) x (cc))
 
 -- a list that passed both has numbers of 24 bits

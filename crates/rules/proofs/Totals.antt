@@ -5,19 +5,21 @@ use mathlib.Core.Bool.{Bool, true, _&&_}
 use mathlib.Core.List.{List, [], _∷_, _++_}
 use mathlib.Core.Option.{Option, none, some}
 use lib.Dec.{eqb}
-use lib.ListN.{length}
+use lib.ListN.{length, length-map}
 use borrow.Author.Tests.{eqb-true}
 use Rattle.rules.specs.Lists.{keep, present, turned, mem, rising, sum}
 use Rattle.rules.specs.Entries.{find}
 use Rattle.rules.specs.Mark.{Mark}
-use Rattle.rules.specs.Effect.{Effect}
+use Rattle.rules.specs.Effect.{Effect, effect}
 use Rattle.rules.specs.World.{World, membersIn, groupTotal, pairTotal}
 use Rattle.rules.specs.Change.{after}
 use Rattle.rules.specs.Ledger.{Group, Pair, samePair, Ledger, group, ownersOf, view, radiosOf, members}
-use Rattle.rules.specs.History.{Named, named}
+use Rattle.rules.specs.Refusals.{accepted}
+use Rattle.rules.specs.History.{History, start, _then_, Named, named, namedIn, world, refusalIn}
 use Rattle.rules.proofs.Tests.{split, clash, and-false}
-use Rattle.rules.proofs.ListLaws.{mem-append, mem-keep, mem-rising, eqb-same, rising-keep, rising-rising, same-members, Once, length-rising, once-rising, sum-one, sum-zero}
-use Rattle.rules.proofs.EntryLaws.{Single}
+use Rattle.rules.proofs.ListLaws.{mem-append, mem-keep, mem-rising, eqb-same, rising-keep, rising-rising, same-members, Once}
+use Rattle.rules.proofs.ListLaws.{length-rising, once-rising, sum-one, sum-zero}
+use Rattle.rules.proofs.EntryLaws.{Single, keys, mem-keys, once-keys}
 
 -- ---- what stands was named ----
 
@@ -62,6 +64,15 @@ within-after w e n h = record {
       (λ b. split (e .removes g) (λ c. clash (cc)) (λ c. cc)))));
 }
 
+-- after any history
+pub within-history : (h : History) → Within (world h) (namedIn h)
+within-history start = record { stands = λ g e. e; groups = λ g r e. e; radios = λ g r e. e; owners = λ g a e. e }
+within-history (h then s) =
+    let e = effect (world h) s in
+    split (accepted (refusalIn h s))
+    (λ a. rw a (within-after (world h) e (namedIn h) (within-history h)))
+    (λ a. rw a (within-more (world h) e (namedIn h) (within-history h)))
+
 -- ---- lists and totals ----
 
 pub mem-radios : (g r : ℕ) (l : List (Pair × Mark)) → mem r (radiosOf g l) ≡ present (find samePair l (g, r))
@@ -83,22 +94,6 @@ members-agree l n h g = same-members (members l g) (membersIn (view l) (n .radio
     (rising-keep (λ r. present (view l .mark g r)) (rising (n .radios)) (rising-rising (n .radios)))
     (λ r. mem-rising r (radiosOf g (l .pairs)) ∙ mem-radios g r (l .pairs) ∙ narrow r (λ r. present (view l .mark g r)) (n .radios) (h .radios g r))
 
-abbrev keys : List (ℕ × Group) → List ℕ
-keys [] = []
-keys (e ∷ l) = e .0 ∷ keys l
-
-mem-keys : (g : ℕ) (l : List (ℕ × Group)) → mem g (keys l) ≡ present (find eqb l g)
-mem-keys g [] = refl
-mem-keys g (e ∷ l) = split (eqb g (e .0)) (λ a. cc) (λ a. cc (mem-keys g l))
-
-once-keys : (l : List (ℕ × Group)) → Single eqb l → Once (keys l)
-once-keys [] h = tt
-once-keys (e ∷ l) h = (mem-keys (e .0) l ∙ h .0, once-keys l (h .1))
-
-length-keys : (l : List (ℕ × Group)) → length (keys l) ≡ length l
-length-keys [] = refl
-length-keys (e ∷ l) = ap suc (length-keys l)
-
 standing-agree : (l : Ledger) (n : Named) → Within (view l) n → rising (keys (l .groups)) ≡ keep (view l .stands) (rising (n .groups))
 standing-agree l n h = same-members (rising (keys (l .groups))) (keep (view l .stands) (rising (n .groups)))
     (rising-rising (keys (l .groups)))
@@ -107,7 +102,7 @@ standing-agree l n h = same-members (rising (keys (l .groups))) (keep (view l .s
 
 pub groups-total : (l : Ledger) (n : Named) → Within (view l) n → Single eqb (l .groups) → length (l .groups) ≡ groupTotal (view l) (n .groups)
 groups-total l n h o =
-    sym (length-keys (l .groups)) ∙ sym (length-rising (keys (l .groups)) (once-keys (l .groups) o)) ∙ ap length (standing-agree l n h)
+    sym (length-map (l .groups) (λ (e : ℕ × Group). e .0)) ∙ sym (length-rising (keys (l .groups)) (once-keys (l .groups) o)) ∙ ap length (standing-agree l n h)
 
 pub owners-agree : (l : Ledger) (n : Named) → Within (view l) n → (g : ℕ) → rising (ownersOf (group l g)) ≡ keep (view l .owner g) (rising (n .owners))
 owners-agree l n h g = same-members (rising (ownersOf (group l g))) (keep (view l .owner g) (rising (n .owners)))
@@ -132,8 +127,10 @@ length-pairs (e ∷ l) gs o h =
     later : (g r : ℕ) → present (find samePair l (g, r)) ≡ true → present (find samePair (e ∷ l) (g, r)) ≡ true
     later g r k = split (samePair (g, r) (e .0)) (λ a. cc) (λ a. cc)
 
-pub pairs-total : (l : Ledger) (n : Named) → Within (view l) n → Single samePair (l .pairs) → length (l .pairs) ≡ pairTotal (view l) (n .groups) (n .radios)
+pub pairs-total : (l : Ledger) (n : Named) → Within (view l) n → Single samePair (l .pairs)
+    → length (l .pairs) ≡ pairTotal (view l) (n .groups) (n .radios)
 pairs-total l n h o =
-    length-pairs (l .pairs) (rising (n .groups)) (once-rising (rising (n .groups)) (rising-rising (n .groups))) (λ g r k. mem-rising g (n .groups) ∙ h .groups g r k)
+    length-pairs (l .pairs) (rising (n .groups)) (once-rising (rising (n .groups)) (rising-rising (n .groups)))
+    (λ g r k. mem-rising g (n .groups) ∙ h .groups g r k)
     ∙ ap (λ (f : ℕ → ℕ). sum f (rising (n .groups))) (fun-ext (λ g.
     sym (length-rising (radiosOf g (l .pairs)) (once-radios g (l .pairs) o)) ∙ ap length (members-agree l n h g)))

@@ -9,77 +9,83 @@ use native.Mathlib.Omega.{arith}
 use borrow.Author.Tests.{eqb-true, ltb-false, leb-true, le-leb, not-true}
 use Rattle.refusal.specs.declared.Refusal.{Refusal}
 use Rattle.rules.specs.Lists.{any, all, present, turned, mem}
-use Rattle.rules.specs.Entries.{find, distinct}
+use Rattle.rules.specs.Entries.{find}
 use Rattle.rules.specs.Number.{key, wide, wideKey, badList, untaken, numbersIn}
 use Rattle.rules.specs.Parameters.{noParameters, replaced, badParameters}
 use Rattle.rules.specs.Mark.{Mark, fresh, confirmed, ticked}
 use Rattle.rules.specs.Order.{Define, Delete, Answer, Step, define, delete, answer, tick, defineGroups, deleteGroups, leaves}
 use Rattle.rules.specs.Effect.{Effect, only, effect}
+use Rattle.rules.specs.Change.{after}
 use Rattle.rules.specs.Refusals.{accepted, maxGroups, maxPairs, refuses, badValues}
-use Rattle.rules.specs.Ledger.{Group, Pair, samePair, Ledger, empty, group, parametersOf, view, ownersAfter, given, groupAfter, apply, refused, step}
+use Rattle.rules.specs.Ledger.{Group, Pair, samePair, Ledger, empty, group, parametersOf, view}
+use Rattle.rules.specs.Placing.{Placing, Lawful}
+use Rattle.rules.specs.Steps.{ownersAfter, given, groupAfter, apply, refused, step}
 use Rattle.rules.specs.Written.{goodOwners, goodGroup, goodMark, goodPair, written}
 use Rattle.rules.specs.History.{History, start, _then_}
 use Rattle.rules.specs.Run.{run}
 use Rattle.rules.proofs.Tests.{split, clash, and-in, and-l, and-r, or-l, or-r, not-in}
-use Rattle.rules.proofs.ListLaws.{eqb-same, length-keep}
-use Rattle.rules.proofs.EntryLaws.{Single, single-distinct, distinct-single, found-all, all-found, length-alter}
-use Rattle.rules.proofs.Effects.{pair-sound, pair-itself, group-after, mark-after, single-groups, single-pairs}
+use Rattle.rules.proofs.ListLaws.{eqb-same}
+use Rattle.rules.proofs.EntryLaws.{found-all, all-found, length-alter}
+use Rattle.rules.proofs.Pairs.{pair-sound, pair-itself}
+use Rattle.rules.proofs.Effects.{Standing, groups-single, pairs-single, standing-apply, group-after, mark-after}
 use Rattle.rules.proofs.Ranges.{key-wide, numbers-narrow, numbers-few, owners-good, replaced-good, begun-good, ticked-good}
 
 -- ---- the form, by what is found ----
 
-pub record Form (l : Ledger) : Type 0 where
-  pub groups-once : Single eqb (l .groups)
-  pub pairs-once : Single samePair (l .pairs)
+pub record Form (p : Placing) (l : Ledger) : Type 0 where
+  pub standing : Standing p l
   pub few-groups : length (l .groups) ≤ maxGroups
   pub few-pairs : length (l .pairs) ≤ maxPairs
   pub groups : (g : ℕ) (x : Group) → group l g ≡ some x → goodGroup (g, x) ≡ true
   pub marks : (g r : ℕ) (m : Mark) → find samePair (l .pairs) (g, r) ≡ some m → (wideKey r ≡ false) × (goodMark m ≡ true)
   pub there : (g r : ℕ) → present (find samePair (l .pairs) (g, r)) ≡ true → present (group l g) ≡ true
 
-pub form-written : (l : Ledger) → Form l → written l ≡ true
-form-written l f =
-    and-in (le-leb (length (l .groups)) maxGroups (f .few-groups))
-    (and-in (le-leb (length (l .pairs)) maxPairs (f .few-pairs))
-    (and-in (distinct-single eqb (l .groups) (f .groups-once))
-    (and-in (distinct-single samePair (l .pairs) (f .pairs-once))
-    (and-in (all-found eqb eqb-true eqb-same goodGroup (l .groups) (f .groups-once) (f .groups))
-    (all-found samePair pair-sound pair-itself (goodPair l) (l .pairs) (f .pairs-once)
-    (λ k m e. let q = f .marks (k .0) (k .1) m e in
-    and-in (not-in (wideKey (k .1)) (q .0)) (and-in (q .1) (f .there (k .0) (k .1) (cc)))))))))
+module _ (p : Placing) (laws : Lawful p) (l : Ledger) where
+  pub form-written : Form p l → written p l ≡ true
+  form-written f =
+      and-in (le-leb (length (l .groups)) maxGroups (f .few-groups))
+      (and-in (le-leb (length (l .pairs)) maxPairs (f .few-pairs))
+      (and-in (f .standing .groups)
+      (and-in (f .standing .pairs)
+      (and-in (all-found eqb eqb-true eqb-same goodGroup (l .groups) (groups-single p laws l (f .standing)) (f .groups))
+      (all-found samePair pair-sound pair-itself (goodPair l) (l .pairs) (pairs-single p laws l (f .standing))
+      (λ k m e. let q = f .marks (k .0) (k .1) m e in
+      and-in (not-in (wideKey (k .1)) (q .0)) (and-in (q .1) (f .there (k .0) (k .1) (cc)))))))))
 
-pub written-form : (l : Ledger) → written l ≡ true → Form l
-written-form l h =
-    let fewGroups = leb (length (l .groups)) maxGroups in
-    let fewPairs = leb (length (l .pairs)) maxPairs in
-    let onceGroups = distinct eqb (l .groups) in
-    let oncePairs = distinct samePair (l .pairs) in
-    let goodGroups = all goodGroup (l .groups) in
-    let goodPairs = all (goodPair l) (l .pairs) in
-    let h₁ = and-r fewGroups (fewPairs && (onceGroups && (oncePairs && (goodGroups && goodPairs)))) h in
-    let h₂ = and-r fewPairs (onceGroups && (oncePairs && (goodGroups && goodPairs))) h₁ in
-    let h₃ = and-r onceGroups (oncePairs && (goodGroups && goodPairs)) h₂ in
-    let h₄ = and-r oncePairs (goodGroups && goodPairs) h₃ in
-    record {
-      groups-once = single-distinct eqb (l .groups) (and-l onceGroups (oncePairs && (goodGroups && goodPairs)) h₂);
-      pairs-once = single-distinct samePair (l .pairs) (and-l oncePairs (goodGroups && goodPairs) h₃);
-      few-groups = leb-true (length (l .groups)) maxGroups (and-l fewGroups (fewPairs && (onceGroups && (oncePairs && (goodGroups && goodPairs)))) h);
-      few-pairs = leb-true (length (l .pairs)) maxPairs (and-l fewPairs (onceGroups && (oncePairs && (goodGroups && goodPairs))) h₁);
-      groups = found-all eqb eqb-true goodGroup (l .groups) (and-l goodGroups goodPairs h₄);
-      marks = λ g r m e. let q = pair g r m (and-r goodGroups goodPairs h₄) e in (
-        not-true (wideKey r) (and-l (not (wideKey r)) (goodMark m && present (group l g)) q),
-        and-l (goodMark m) (present (group l g)) (and-r (not (wideKey r)) (goodMark m && present (group l g)) q),
-      );
-      there = λ g r e. stands g r (and-r goodGroups goodPairs h₄) (find samePair (l .pairs) (g, r)) refl e;
-    }
-  where
-    pair : (g r : ℕ) (m : Mark) → all (goodPair l) (l .pairs) ≡ true → find samePair (l .pairs) (g, r) ≡ some m → goodPair l ((g, r), m) ≡ true
-    pair g r m a e = found-all samePair pair-sound (goodPair l) (l .pairs) a (g, r) m e
+module _ (p : Placing) (l : Ledger) where
+  pub written-form : written p l ≡ true → Form p l
+  written-form h =
+      let fewGroups = leb (length (l .groups)) maxGroups in
+      let fewPairs = leb (length (l .pairs)) maxPairs in
+      let groupsStand = p .groups .form (l .groups) in
+      let pairsStand = p .pairs .form (l .pairs) in
+      let goodGroups = all goodGroup (l .groups) in
+      let goodPairs = all (goodPair l) (l .pairs) in
+      let good = goodGroups && goodPairs in
+      let h₁ = and-r fewGroups (fewPairs && (groupsStand && (pairsStand && good))) h in
+      let h₂ = and-r fewPairs (groupsStand && (pairsStand && good)) h₁ in
+      let h₃ = and-r groupsStand (pairsStand && good) h₂ in
+      let h₄ = and-r pairsStand good h₃ in
+      record {
+        standing = record { groups = and-l groupsStand (pairsStand && good) h₂; pairs = and-l pairsStand good h₃ };
+        few-groups = leb-true (length (l .groups)) maxGroups (and-l fewGroups (fewPairs && (groupsStand && (pairsStand && good))) h);
+        few-pairs = leb-true (length (l .pairs)) maxPairs (and-l fewPairs (groupsStand && (pairsStand && good)) h₁);
+        groups = found-all eqb eqb-true goodGroup (l .groups) (and-l goodGroups goodPairs h₄);
+        marks = λ g r m e. let q = pair g r m (and-r goodGroups goodPairs h₄) e in (
+          not-true (wideKey r) (and-l (not (wideKey r)) (goodMark m && present (group l g)) q),
+          and-l (goodMark m) (present (group l g)) (and-r (not (wideKey r)) (goodMark m && present (group l g)) q),
+        );
+        there = λ g r e. stands g r (and-r goodGroups goodPairs h₄) (find samePair (l .pairs) (g, r)) refl e;
+      }
+    where
+      pair : (g r : ℕ) (m : Mark) → all (goodPair l) (l .pairs) ≡ true → find samePair (l .pairs) (g, r) ≡ some m → goodPair l ((g, r), m) ≡ true
+      pair g r m a e = found-all samePair pair-sound (goodPair l) (l .pairs) a (g, r) m e
 
-    stands : (g r : ℕ) → all (goodPair l) (l .pairs) ≡ true → (o : Option Mark) → find samePair (l .pairs) (g, r) ≡ o → present o ≡ true → present (group l g) ≡ true
-    stands g r a none q e = clash (sym e)
-    stands g r a (some m) q e =
-        and-r (goodMark m) (present (group l g)) (and-r (not (wideKey r)) (goodMark m && present (group l g)) (pair g r m a q))
+      stands : (g r : ℕ) → all (goodPair l) (l .pairs) ≡ true → (o : Option Mark) → find samePair (l .pairs) (g, r) ≡ o
+          → present o ≡ true → present (group l g) ≡ true
+      stands g r a none q e = clash (sym e)
+      stands g r a (some m) q e =
+          and-r (goodMark m) (present (group l g)) (and-r (not (wideKey r)) (goodMark m && present (group l g)) (pair g r m a q))
 
 -- ---- what an effect needs so that the form stays ----
 
@@ -87,12 +93,13 @@ abbrev GoodOption : Option Group → Type 0
 GoodOption none = Unit {0}
 GoodOption (some x) = (goodOwners (x .owners) ≡ true) × (badParameters (x .parameters) ≡ false)
 
-replaced-fit : (e : Effect) (x : Option Group) → badParameters (e .parameters) ≡ false → GoodOption x → badParameters (replaced (e .parameters) (parametersOf x)) ≡ false
+replaced-fit : (e : Effect) (x : Option Group) → badParameters (e .parameters) ≡ false → GoodOption x
+    → badParameters (replaced (e .parameters) (parametersOf x)) ≡ false
 replaced-fit e none p k = replaced-good (e .parameters) noParameters p refl
 replaced-fit e (some x) p k = replaced-good (e .parameters) (x .parameters) p (k .1)
 
-good-option : (l : Ledger) → Form l → (g : ℕ) → GoodOption (group l g)
-good-option l f g = go (group l g) (f .groups g)
+good-option : (p : Placing) (l : Ledger) → Form p l → (g : ℕ) → GoodOption (group l g)
+good-option p l f g = go (group l g) (f .groups g)
   where
     go : (o : Option Group) → ((x : Group) → o ≡ some x → goodGroup (g, x) ≡ true) → GoodOption o
     go none h = tt
@@ -102,59 +109,65 @@ good-option l f g = go (group l g) (f .groups g)
           not-true (badParameters (x .parameters)) (and-r (goodOwners (x .owners)) (not (badParameters (x .parameters))) k),
         )
 
-record Fit (l : Ledger) (e : Effect) : Type 0 where
+record Fit (p : Placing) (l : Ledger) (e : Effect) : Type 0 where
   makes : (g : ℕ) → mem g (e .makes) ≡ true → (wideKey g ≡ false) × (goodOwners (e .owners) ≡ true)
   parameters : badParameters (e .parameters) ≡ false
   assigns : (r : ℕ) → mem r (e .assigns) ≡ true → wideKey r ≡ false
   begins : goodMark (e .begins) ≡ true
   turns : (g r : ℕ) (m m′ : Mark) → goodMark m ≡ true → e .turns g r m ≡ some m′ → goodMark m′ ≡ true
   removes : (g r : ℕ) (m : Mark) → e .removes g ≡ true → e .turns g r m ≡ none
-  few-groups : length (apply l e .groups) ≤ maxGroups
-  few-pairs : length (apply l e .pairs) ≤ maxPairs
+  few-groups : length (apply p l e .groups) ≤ maxGroups
+  few-pairs : length (apply p l e .pairs) ≤ maxPairs
 
-form-apply : (l : Ledger) (e : Effect) → Form l → Fit l e → Form (apply l e)
-form-apply l e f p = record {
-  groups-once = single-groups l e (f .groups-once);
-  pairs-once = single-pairs l e s;
-  few-groups = p .few-groups;
-  few-pairs = p .few-pairs;
-  groups = λ g x k. split (mem g (e .makes))
-      (λ a. made g x a (cc (group-after l e g)))
-      (λ a. split (e .removes g) (λ b. clash (cc (group-after l e g))) (λ b. f .groups g x (cc (group-after l e g))));
-  marks = λ g r m k. split (mem g (e .makes) && mem r (e .assigns))
-      (λ a. (p .assigns r (and-r (mem g (e .makes)) (mem r (e .assigns)) a), set m (cc (mark-after l e s g r))))
-      (λ a. turn g r m (find samePair (l .pairs) (g, r)) refl (cc (mark-after l e s g r)));
-  there = λ g r k. split (mem g (e .makes))
-      (λ a. cc (group-after l e g))
-      (λ a. stay g r a (find samePair (l .pairs) (g, r)) refl (cc (mark-after l e s g r)));
-}
-  where
-    s : Single samePair (l .pairs)
-    s = f .pairs-once
+module _ (p : Placing) (laws : Lawful p) (l : Ledger) (f : Form p l) (e : Effect) (fit : Fit p l e) where
+  group-then : (g : ℕ) → group (apply p l e) g ≡ cond (mem g (e .makes)) (some (groupAfter (e .keeps) (given e) (group l g))) (cond (e .removes g) none (group l g))
+  group-then = group-after p laws l (f .standing) e
 
-    made : (g : ℕ) (x : Group) → mem g (e .makes) ≡ true → some (groupAfter (e .keeps) (given e) (group l g)) ≡ some x → goodGroup (g, x) ≡ true
-    made g x a k =
-        let q : groupAfter (e .keeps) (given e) (group l g) ≡ x = cc in
-        sym (ap (λ (y : Group). goodGroup (g, y)) q) ∙ and-in (not-in (wideKey g) (p .makes g a .0)) (and-in
-        (owners (group l g) (good-option l f g))
-        (not-in (badParameters (replaced (e .parameters) (parametersOf (group l g)))) (replaced-fit e (group l g) (p .parameters) (good-option l f g))))
-      where
-        owners : (x : Option Group) → GoodOption x → goodOwners (ownersAfter (e .keeps) (given e) x) ≡ true
-        owners none k = p .makes g a .1
-        owners (some x) k = split (e .keeps) (λ b. rw b (k .0)) (λ b. rw b (p .makes g a .1))
+  mark-then : (g r : ℕ) → find samePair (apply p l e .pairs) (g, r) ≡ after (view l) e .mark g r
+  mark-then = mark-after p laws l (f .standing) e
 
-    set : (m : Mark) → some (e .begins) ≡ some m → goodMark m ≡ true
-    set m k = let q : e .begins ≡ m = cc in sym (ap goodMark q) ∙ p .begins
+  form-apply : Form p (apply p l e)
+  form-apply = record {
+    standing = standing-apply p laws l (f .standing) e;
+    few-groups = fit .few-groups;
+    few-pairs = fit .few-pairs;
+    groups = λ g x k. split (mem g (e .makes))
+        (λ a. made g x a (cc (group-then g)))
+        (λ a. split (e .removes g) (λ b. clash (cc (group-then g))) (λ b. f .groups g x (cc (group-then g))));
+    marks = λ g r m k. split (mem g (e .makes) && mem r (e .assigns))
+        (λ a. (fit .assigns r (and-r (mem g (e .makes)) (mem r (e .assigns)) a), set m (cc (mark-then g r))))
+        (λ a. turn g r m (find samePair (l .pairs) (g, r)) refl (cc (mark-then g r)));
+    there = λ g r k. split (mem g (e .makes))
+        (λ a. cc (group-then g))
+        (λ a. stay g r a (find samePair (l .pairs) (g, r)) refl (cc (mark-then g r)));
+  }
+    where
+      made : (g : ℕ) (x : Group) → mem g (e .makes) ≡ true → some (groupAfter (e .keeps) (given e) (group l g)) ≡ some x → goodGroup (g, x) ≡ true
+      made g x a k =
+          let q : groupAfter (e .keeps) (given e) (group l g) ≡ x = cc in
+          let good = good-option p l f g in
+          sym (ap (λ (y : Group). goodGroup (g, y)) q) ∙ and-in (not-in (wideKey g) (fit .makes g a .0)) (and-in
+          (owners (group l g) good)
+          (not-in (badParameters (replaced (e .parameters) (parametersOf (group l g)))) (replaced-fit e (group l g) (fit .parameters) good)))
+        where
+          owners : (x : Option Group) → GoodOption x → goodOwners (ownersAfter (e .keeps) (given e) x) ≡ true
+          owners none k = fit .makes g a .1
+          owners (some x) k = split (e .keeps) (λ b. rw b (k .0)) (λ b. rw b (fit .makes g a .1))
 
-    turn : (g r : ℕ) (m : Mark) (o : Option Mark) → find samePair (l .pairs) (g, r) ≡ o → turned (e .turns g r) o ≡ some m → (wideKey r ≡ false) × (goodMark m ≡ true)
-    turn g r m none q k = clash (cc)
-    turn g r m (some m₀) q k = (f .marks g r m₀ q .0, p .turns g r m₀ m (f .marks g r m₀ q .1) k)
+      set : (m : Mark) → some (e .begins) ≡ some m → goodMark m ≡ true
+      set m k = let q : e .begins ≡ m = cc in sym (ap goodMark q) ∙ fit .begins
 
-    stay : (g r : ℕ) → mem g (e .makes) ≡ false → (o : Option Mark) → find samePair (l .pairs) (g, r) ≡ o → present (turned (e .turns g r) o) ≡ true → present (group (apply l e) g) ≡ true
-    stay g r a none q k = clash (sym k)
-    stay g r a (some m₀) q k = split (e .removes g)
-        (λ b. clash (cc (p .removes g r m₀ b)))
-        (λ b. cc (group-after l e g, f .there g r (cc)))
+      turn : (g r : ℕ) (m : Mark) (o : Option Mark) → find samePair (l .pairs) (g, r) ≡ o → turned (e .turns g r) o ≡ some m
+          → (wideKey r ≡ false) × (goodMark m ≡ true)
+      turn g r m none q k = clash (cc)
+      turn g r m (some m₀) q k = (f .marks g r m₀ q .0, fit .turns g r m₀ m (f .marks g r m₀ q .1) k)
+
+      stay : (g r : ℕ) → mem g (e .makes) ≡ false → (o : Option Mark) → find samePair (l .pairs) (g, r) ≡ o
+          → present (turned (e .turns g r) o) ≡ true → present (group (apply p l e) g) ≡ true
+      stay g r a none q k = clash (sym k)
+      stay g r a (some m₀) q k = split (e .removes g)
+          (λ b. clash (cc (fit .removes g r m₀ b)))
+          (λ b. cc (group-then g, f .there g r (cc)))
 
 -- ---- the steps ----
 
@@ -163,99 +176,104 @@ passed : (r : Refusal) (b : Bool) (k : Option Refusal) → cond b (some r) k ≡
 passed r true k e = clash (cc)
 passed r false k e = (refl, e)
 
-define-fit : (l : Ledger) (o : Define) (room : ℕ) → refused l (define o room) ≡ none → Fit l (effect (view l) (define o room))
-define-fit l o room e =
-    let l′ = apply l (effect (view l) (define o room)) in
-    let bad = passed _ (wide (o .asker) || (refuses (o .judged) || badValues o)) _ e in
-    let form = passed _ (o .call || (untaken (o .groups) || (untaken (o .owners) || untaken (o .radios)))) _ (bad .1) in
-    let owned = passed _ (any (λ g. view l .stands g && not (view l .owner g (key (o .asker)))) (defineGroups o)) _ (form .1) in
-    let full = passed _ (ltb maxGroups (length (l′ .groups)) || ltb maxPairs (length (l′ .pairs))) _ (owned .1) in
-    let asker = or-l (wide (o .asker)) (refuses (o .judged) || badValues o) (bad .0) in
-    let b₁ = or-r (refuses (o .judged)) (badValues o) (or-r (wide (o .asker)) (refuses (o .judged) || badValues o) (bad .0)) in
-    let b₂ = or-r (badList (o .groups)) (badList (o .owners) || (badList (o .radios) || badParameters (o .parameters))) b₁ in
-    let b₃ = or-r (badList (o .owners)) (badList (o .radios) || badParameters (o .parameters)) b₂ in
-    let u₁ = or-r (o .call) (untaken (o .groups) || (untaken (o .owners) || untaken (o .radios))) (form .0) in
-    let u₂ = or-r (untaken (o .groups)) (untaken (o .owners) || untaken (o .radios)) u₁ in
-    let badOwners = or-l (badList (o .owners)) (badList (o .radios) || badParameters (o .parameters)) b₂ in
-    record {
-      makes = λ g k. (
-        numbers-narrow (o .groups) (or-l (badList (o .groups)) (badList (o .owners) || (badList (o .radios) || badParameters (o .parameters))) b₁)
-            (or-l (untaken (o .groups)) (untaken (o .owners) || untaken (o .radios)) u₁) g k,
-        owners-good (key (o .asker)) (numbersIn (o .owners)) (key-wide (o .asker) ∙ asker) (numbers-few (o .owners) badOwners)
-            (numbers-narrow (o .owners) badOwners (or-l (untaken (o .owners)) (untaken (o .radios)) u₂)),
-      );
-      parameters = or-r (badList (o .radios)) (badParameters (o .parameters)) b₃;
-      assigns = numbers-narrow (o .radios) (or-l (badList (o .radios)) (badParameters (o .parameters)) b₃) (or-r (untaken (o .owners)) (untaken (o .radios)) u₂);
-      begins = begun-good (o .acknowledgement);
-      turns = λ g r m m′ h k. let q : m ≡ m′ = cc in sym (ap goodMark q) ∙ h;
-      removes = λ g r m k. clash (sym k);
-      few-groups = ltb-false maxGroups (length (l′ .groups)) (or-l (ltb maxGroups (length (l′ .groups))) (ltb maxPairs (length (l′ .pairs))) (full .0));
-      few-pairs = ltb-false maxPairs (length (l′ .pairs)) (or-r (ltb maxGroups (length (l′ .groups))) (ltb maxPairs (length (l′ .pairs))) (full .0));
-    }
-
--- a step that makes no group: groups go and pairs turn
-only-fit : (l : Ledger) → Form l → (removes : ℕ → Bool) (turns : ℕ → ℕ → Mark → Option Mark)
-    → ((g r : ℕ) (m m′ : Mark) → goodMark m ≡ true → turns g r m ≡ some m′ → goodMark m′ ≡ true)
-    → ((g r : ℕ) (m : Mark) → removes g ≡ true → turns g r m ≡ none)
-    → Fit l (only removes turns)
-only-fit l f removes turns t v = record {
-  makes = λ g k. clash (sym k);
-  parameters = refl;
-  assigns = λ r k. clash (sym k);
-  begins = refl;
-  turns = t;
-  removes = v;
-  few-groups = let h = length-keep (λ (x : ℕ × Group). not (removes (x .0))) (l .groups) in let k = f .few-groups in omega arith;
-  few-pairs = let h = length-alter (λ (k : Pair). turns (k .0) (k .1)) (l .pairs) in let k = f .few-pairs in omega arith;
-}
-
-delete-fit : (l : Ledger) → Form l → (o : Delete) (room : ℕ) → Fit l (effect (view l) (delete o room))
-delete-fit l f o room = only-fit l f (λ g. o .delete && mem g (deleteGroups o)) _
-    (λ g r m m′ h k. split (mem g (deleteGroups o) && leaves o r)
-    (λ a. clash (cc))
-    (λ a. let q : m ≡ m′ = cc in sym (ap goodMark q) ∙ h))
-    (λ g r m k. split (o .delete) (λ a. cc) (λ a. clash (cc)))
-
-answer-fit : (l : Ledger) → Form l → (a : Answer) → Fit l (effect (view l) (answer a))
-answer-fit l f a = only-fit l f (λ g. false) _
-    (λ g r m m′ h k. split (eqb g (key (a .group)) && eqb r (key (a .radio)))
-    (λ b. split (eqb (a .result) 1)
-    (λ c. let q : fresh confirmed ≡ m′ = cc in sym (ap goodMark q))
-    (λ c. clash (cc)))
-    (λ b. let q : m ≡ m′ = cc in sym (ap goodMark q) ∙ h))
-    (λ g r m k. clash (sym k))
-
-tick-fit : (l : Ledger) → Form l → Fit l (effect (view l) tick)
-tick-fit l f = only-fit l f (λ g. false) _
-    (λ g r m m′ h k. let q : ticked m ≡ m′ = cc in sym (ap goodMark q) ∙ ticked-good m h)
-    (λ g r m k. clash (sym k))
-
-step-fit : (l : Ledger) → Form l → (s : Step) → refused l s ≡ none → Fit l (effect (view l) s)
-step-fit l f (define o room) e = define-fit l o room e
-step-fit l f (delete o room) e = delete-fit l f o room
-step-fit l f (answer a) e = answer-fit l f a
-step-fit l f tick e = tick-fit l f
-
 none-refused : (r : Option Refusal) → accepted r ≡ true → r ≡ none
 none-refused none e = refl
 none-refused (some r) e = clash (sym e)
 
-step-form : (l : Ledger) (s : Step) → Form l → Form (step l s)
-step-form l s f = split (accepted (refused l s))
-    (λ e. rw e (form-apply l (effect (view l) s) f (step-fit l f s (none-refused (refused l s) e))))
-    (λ e. rw e f)
+module _ (p : Placing) where
+  define-fit : (l : Ledger) (o : Define) (room : ℕ) → refused p l (define o room) ≡ none → Fit p l (effect (view l) (define o room))
+  define-fit l o room e =
+      let l′ = apply p l (effect (view l) (define o room)) in
+      let bad = passed _ (wide (o .asker) || (refuses (o .judged) || badValues o)) _ e in
+      let form = passed _ (o .call || (untaken (o .groups) || (untaken (o .owners) || untaken (o .radios)))) _ (bad .1) in
+      let owned = passed _ (any (λ g. view l .stands g && not (view l .owner g (key (o .asker)))) (defineGroups o)) _ (form .1) in
+      let manyGroups = ltb maxGroups (length (l′ .groups)) in
+      let manyPairs = ltb maxPairs (length (l′ .pairs)) in
+      let full = passed _ (manyGroups || manyPairs) _ (owned .1) in
+      let asker = or-l (wide (o .asker)) (refuses (o .judged) || badValues o) (bad .0) in
+      let b₁ = or-r (refuses (o .judged)) (badValues o) (or-r (wide (o .asker)) (refuses (o .judged) || badValues o) (bad .0)) in
+      let b₂ = or-r (badList (o .groups)) (badList (o .owners) || (badList (o .radios) || badParameters (o .parameters))) b₁ in
+      let b₃ = or-r (badList (o .owners)) (badList (o .radios) || badParameters (o .parameters)) b₂ in
+      let u₁ = or-r (o .call) (untaken (o .groups) || (untaken (o .owners) || untaken (o .radios))) (form .0) in
+      let u₂ = or-r (untaken (o .groups)) (untaken (o .owners) || untaken (o .radios)) u₁ in
+      let badOwners = or-l (badList (o .owners)) (badList (o .radios) || badParameters (o .parameters)) b₂ in
+      record {
+        makes = λ g k. (
+          numbers-narrow (o .groups) (or-l (badList (o .groups)) (badList (o .owners) || (badList (o .radios) || badParameters (o .parameters))) b₁)
+              (or-l (untaken (o .groups)) (untaken (o .owners) || untaken (o .radios)) u₁) g k,
+          owners-good (key (o .asker)) (numbersIn (o .owners)) (key-wide (o .asker) ∙ asker) (numbers-few (o .owners) badOwners)
+              (numbers-narrow (o .owners) badOwners (or-l (untaken (o .owners)) (untaken (o .radios)) u₂)),
+        );
+        parameters = or-r (badList (o .radios)) (badParameters (o .parameters)) b₃;
+        assigns = numbers-narrow (o .radios) (or-l (badList (o .radios)) (badParameters (o .parameters)) b₃)
+            (or-r (untaken (o .owners)) (untaken (o .radios)) u₂);
+        begins = begun-good (o .acknowledgement);
+        turns = λ g r m m′ h k. let q : m ≡ m′ = cc in sym (ap goodMark q) ∙ h;
+        removes = λ g r m k. clash (sym k);
+        few-groups = ltb-false maxGroups (length (l′ .groups)) (or-l manyGroups manyPairs (full .0));
+        few-pairs = ltb-false maxPairs (length (l′ .pairs)) (or-r manyGroups manyPairs (full .0));
+      }
 
--- every step keeps the written form, on any ledger that has it
-pub step-written : (l : Ledger) (s : Step) → written l ≡ true → written (step l s) ≡ true
-step-written l s h = form-written (step l s) (step-form l s (written-form l h))
+  -- a step that makes no group: groups go and pairs turn
+  only-fit : (l : Ledger) → Form p l → (removes : ℕ → Bool) (turns : ℕ → ℕ → Mark → Option Mark)
+      → ((g r : ℕ) (m m′ : Mark) → goodMark m ≡ true → turns g r m ≡ some m′ → goodMark m′ ≡ true)
+      → ((g r : ℕ) (m : Mark) → removes g ≡ true → turns g r m ≡ none)
+      → Fit p l (only removes turns)
+  only-fit l f removes turns t v = record {
+    makes = λ g k. clash (sym k);
+    parameters = refl;
+    assigns = λ r k. clash (sym k);
+    begins = refl;
+    turns = t;
+    removes = v;
+    few-groups = let h = length-alter (λ g x. cond (removes g) none (some x)) (l .groups) in let k = f .few-groups in omega arith;
+    few-pairs = let h = length-alter (λ (k : Pair). turns (k .0) (k .1)) (l .pairs) in let k = f .few-pairs in omega arith;
+  }
 
-pub empty-written : written empty ≡ true
-empty-written = refl
+  delete-fit : (l : Ledger) → Form p l → (o : Delete) (room : ℕ) → Fit p l (effect (view l) (delete o room))
+  delete-fit l f o room = only-fit l f (λ g. o .delete && mem g (deleteGroups o)) _
+      (λ g r m m′ h k. split (mem g (deleteGroups o) && leaves o r)
+      (λ a. clash (cc))
+      (λ a. let q : m ≡ m′ = cc in sym (ap goodMark q) ∙ h))
+      (λ g r m k. split (o .delete) (λ a. cc) (λ a. clash (cc)))
 
--- "never after own operations from empty"
-pub run-written : (h : History) → written (run h) ≡ true
-run-written start = empty-written
-run-written (h then s) = step-written (run h) s (run-written h)
+  answer-fit : (l : Ledger) → Form p l → (a : Answer) → Fit p l (effect (view l) (answer a))
+  answer-fit l f a = only-fit l f (λ g. false) _
+      (λ g r m m′ h k. split (eqb g (key (a .group)) && eqb r (key (a .radio)))
+      (λ b. split (eqb (a .result) 1)
+      (λ c. let q : fresh confirmed ≡ m′ = cc in sym (ap goodMark q))
+      (λ c. clash (cc)))
+      (λ b. let q : m ≡ m′ = cc in sym (ap goodMark q) ∙ h))
+      (λ g r m k. clash (sym k))
 
-pub run-form : (h : History) → Form (run h)
-run-form h = written-form (run h) (run-written h)
+  tick-fit : (l : Ledger) → Form p l → Fit p l (effect (view l) tick)
+  tick-fit l f = only-fit l f (λ g. false) _
+      (λ g r m m′ h k. let q : ticked m ≡ m′ = cc in sym (ap goodMark q) ∙ ticked-good m h)
+      (λ g r m k. clash (sym k))
+
+  step-fit : (l : Ledger) → Form p l → (s : Step) → refused p l s ≡ none → Fit p l (effect (view l) s)
+  step-fit l f (define o room) e = define-fit l o room e
+  step-fit l f (delete o room) e = delete-fit l f o room
+  step-fit l f (answer a) e = answer-fit l f a
+  step-fit l f tick e = tick-fit l f
+
+module _ (p : Placing) (laws : Lawful p) where
+  step-form : (l : Ledger) (s : Step) → Form p l → Form p (step p l s)
+  step-form l s f = split (accepted (refused p l s))
+      (λ e. rw e (form-apply p laws l f (effect (view l) s) (step-fit p l f s (none-refused (refused p l s) e))))
+      (λ e. rw e f)
+
+  -- every step keeps the written form, on any ledger that has it
+  pub step-written : (l : Ledger) (s : Step) → written p l ≡ true → written p (step p l s) ≡ true
+  step-written l s h = form-written p laws (step p l s) (step-form l s (written-form p l h))
+
+  pub empty-written : written p empty ≡ true
+  empty-written = rw (laws .groups .begins, laws .pairs .begins) refl
+
+  -- "never after own operations from empty"
+  pub run-written : (h : History) → written p (run p h) ≡ true
+  run-written start = empty-written
+  run-written (h then s) = step-written (run p h) s (run-written h)
+
+  pub run-form : (h : History) → Form p (run p h)
+  run-form h = written-form p (run p h) (run-written h)

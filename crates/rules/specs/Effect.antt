@@ -1,4 +1,4 @@
--- What an accepted step does. It is stated once: Change says what it makes of what stands, Ledger what it makes of the lists.
+-- What an accepted step does. It is stated once: Change says what it makes of what stands, Steps what it makes of the lists.
 use Prim.Native.Nat.{ℕ}
 use mathlib.Core.Bool.{Bool, true, false, cond, not, _&&_}
 use mathlib.Core.List.{List, []}

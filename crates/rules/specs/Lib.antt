@@ -13,6 +13,9 @@ pub mod Refusals
 pub mod Replies
 pub mod History
 pub mod Ledger
+pub mod Placing
+pub mod Arrival
+pub mod Steps
 pub mod Listing
 pub mod Run
 pub mod Written

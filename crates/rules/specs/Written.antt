@@ -6,12 +6,12 @@ use mathlib.Core.List.{List}
 use lib.Dec.{eqb, ltb, leb}
 use lib.ListN.{length}
 use Rattle.rules.specs.Lists.{all, unique, present}
-use Rattle.rules.specs.Entries.{distinct}
 use Rattle.rules.specs.Number.{wideKey}
 use Rattle.rules.specs.Parameters.{badParameters}
 use Rattle.rules.specs.Mark.{Mark, waiting, unheard, T1}
 use Rattle.rules.specs.Refusals.{maxGroups, maxPairs}
-use Rattle.rules.specs.Ledger.{Group, Pair, samePair, Ledger, group}
+use Rattle.rules.specs.Ledger.{Group, Pair, Ledger, group}
+use Rattle.rules.specs.Placing.{Placing}
 
 -- the asker and at most ten listed
 abbrev pub maxOwners : ℕ
@@ -30,8 +30,9 @@ goodMark m = cond (eqb (m .state) waiting) (ltb (m .ticks) T1) (leb (m .state) u
 abbrev pub goodPair : Ledger → Pair × Mark → Bool
 goodPair l e = not (wideKey (e .0 .1)) && (goodMark (e .1) && present (group l (e .0 .0)))
 
-abbrev pub written : Ledger → Bool
-written l =
+-- no group and no pair twice: by the placing's form
+abbrev pub written : Placing → Ledger → Bool
+written p l =
     leb (length (l .groups)) maxGroups && (leb (length (l .pairs)) maxPairs
-    && (distinct eqb (l .groups) && (distinct samePair (l .pairs)
+    && (p .groups .form (l .groups) && (p .pairs .form (l .pairs)
     && (all goodGroup (l .groups) && all (goodPair l) (l .pairs)))))

@@ -20,7 +20,9 @@ use Rattle.rules.specs.Recorded.{setReference, assignment, numbersAt, defineOf}
 use Rattle.rules.specs.Refusals.{replyNumber}
 use Rattle.rules.specs.Replies.{Entry, Listing}
 use Rattle.rules.specs.History.{History, start, _then_, refusalIn, listIn}
-use Rattle.rules.specs.Ledger as ledger
+use Rattle.rules.specs.Ledger.{list}
+use Rattle.rules.specs.Steps as steps
+use Rattle.rules.specs.Arrival.{byArrival}
 use Rattle.rules.specs.Run.{run}
 
 pub data Sample : Type 0 where
@@ -143,9 +145,9 @@ passes (taken kind count bytes s) =
 passes (refused kind count bytes n) =
     let reading = readingOf kind bytes count in
     refusesWith n (reading .verdict) && same (reading .values .place) (filled [])
--- by what the history means, and on the abstract ledger after it
+-- by what the history means, and on the abstract ledger by arrival after it
 passes (ordered before next n entries) =
     eqb (replyNumber (refusalIn before next)) n
     && lists entries (listIn (before then next) 1 5 1)
-    && eqb (replyNumber (ledger.refused (run before) next)) n
-    && lists entries (ledger.list (run (before then next)) 1 5 1)
+    && eqb (replyNumber (steps.refused byArrival (run byArrival before) next)) n
+    && lists entries (list (run byArrival (before then next)) 1 5 1)

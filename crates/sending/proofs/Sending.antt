@@ -28,27 +28,6 @@ use Rattle.store.specs.declared.Standing.the-variants.{Missing, Foreign, Taken}
 use Rattle.store.proofs.Rows.{onto-more, map-snoc}
 use Rattle.asking.proofs.Listing.{entry-length}
 
--- what is wrong with a group goes by whose it is
-pub fails-fault : (s : Standing) (x : Option Group) (asker : ℕ) → failsAs s (ownedAs x asker) ≡ groupFault s x asker
-fails-fault Missing none asker = refl
-fails-fault Foreign none asker = refl
-fails-fault Taken none asker = refl
-fails-fault Missing (some x) asker = go (mem asker (x .owners))
-  where
-    go : (b : Bool) → failsAs Missing (cond b Own Other) ≡ false
-    go true = refl
-    go false = refl
-fails-fault Foreign (some x) asker = go (mem asker (x .owners))
-  where
-    go : (b : Bool) → failsAs Foreign (cond b Own Other) ≡ not b
-    go true = refl
-    go false = refl
-fails-fault Taken (some x) asker = go (mem asker (x .owners))
-  where
-    go : (b : Bool) → failsAs Taken (cond b Own Other) ≡ not b
-    go true = refl
-    go false = refl
-
 -- a walk that keeps what passes at the front of lent room
 module _ (p : ℕ → Bool) (xs out out₀ : List ℕ) (i k : ℕ) (h : i < length xs) (n : k ≡ length (keep p (take i xs))) (e : out ≡ onto (keep p (take i xs)) out₀) where
   kept-turn : (b : Bool) → p (getD xs i 0) ≡ b → keep p (take (i + 1) xs) ≡ keep p (take i xs) ++ cond b (getD xs i 0 ∷ []) []

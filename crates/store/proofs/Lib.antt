@@ -1,8 +1,9 @@
 -- Laws of the lent storage.
 pub mod Rows
 pub mod Storage
-pub mod Places
+pub mod PlaceLaws
 pub mod Tests
 pub mod Groups
-pub mod Form
+pub mod FormLaws
+pub mod NamedLaws
 pub mod Unique

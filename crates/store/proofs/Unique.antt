@@ -1,35 +1,48 @@
--- Each public function's contract allows one outcome: two results that meet it are equal.
-use mathlib.Core.Path.{_≡_, sym, _∙_}
-use contract.Lifetimes.{Lfts}
-use borrow.Fn.Kinds.{Dens, resT, endedOf}
-use denote.Triple.Clauses.{AtExit}
-use Rattle.store.proofs.stands.Kinds as stands-kinds
-use Rattle.store.proofs.stands.Reads as stands
-use Rattle.store.proofs.pair_place.Kinds as pair-place-kinds
-use Rattle.store.proofs.pair_place.Reads as pair-place
-use Rattle.store.proofs.group_place.Kinds as group-place-kinds
-use Rattle.store.proofs.group_place.Reads as group-place
-use Rattle.store.proofs.roomy.Kinds as roomy-kinds
-use Rattle.store.proofs.roomy.Reads as roomy
-use Rattle.store.proofs.written.Kinds as written-kinds
-use Rattle.store.proofs.written.Reads as written
+-- Any two results that a function's contract allows are equal. `Post` is a contract's claim as the checker reads it.
+use mathlib.Core.Path.{sym, _∙_}
+use Rattle.order.proofs.Unique.{Unique}
+use Rattle.store.proofs.places.stands.Kinds as stands-kinds
+use Rattle.store.proofs.places.stands.Reads as stands
+use Rattle.store.proofs.places.pair_place.Kinds as pair-place-kinds
+use Rattle.store.proofs.places.pair_place.Reads as pair-place
+use Rattle.store.proofs.places.group_place.Kinds as group-place-kinds
+use Rattle.store.proofs.places.group_place.Reads as group-place
+use Rattle.store.proofs.places.state_in.Kinds as state-in-kinds
+use Rattle.store.proofs.places.state_in.Reads as state-in
+use Rattle.store.proofs.places.find.Kinds as find-kinds
+use Rattle.store.proofs.places.find.Reads as find
+use Rattle.store.proofs.named.owned_by.Kinds as owned-by-kinds
+use Rattle.store.proofs.named.owned_by.Reads as owned-by
+use Rattle.store.proofs.named.any_group.Kinds as any-group-kinds
+use Rattle.store.proofs.named.any_group.Reads as any-group
+use Rattle.store.proofs.form.roomy.Kinds as roomy-kinds
+use Rattle.store.proofs.form.roomy.Reads as roomy
+use Rattle.store.proofs.form.written.Kinds as written-kinds
+use Rattle.store.proofs.form.written.Reads as written
 
-module _ (κs : Lfts 0) (a : Dens κs stands-kinds.ps) (r r′ : resT stands-kinds.r κs .Denot) (s s′ : AtExit (endedOf 0 stands-kinds.ps stands-kinds.r) κs) where
-  pub stands-unique : stands.Post κs a r s → stands.Post κs a r′ s′ → r ≡ r′
-  stands-unique p q = p ∙ sym q
+pub stands-unique : Unique stands-kinds.ps stands-kinds.r stands.Post
+stands-unique κs a r r′ s s′ p q = p ∙ sym q
 
-module _ (κs : Lfts 1) (a : Dens κs pair-place-kinds.ps) (r r′ : resT pair-place-kinds.r κs .Denot) (s s′ : AtExit (endedOf 1 pair-place-kinds.ps pair-place-kinds.r) κs) where
-  pub pair-place-unique : pair-place.Post κs a r s → pair-place.Post κs a r′ s′ → r ≡ r′
-  pair-place-unique p q = p ∙ sym q
+pub pair-place-unique : Unique pair-place-kinds.ps pair-place-kinds.r pair-place.Post
+pair-place-unique κs a r r′ s s′ p q = p ∙ sym q
 
-module _ (κs : Lfts 1) (a : Dens κs group-place-kinds.ps) (r r′ : resT group-place-kinds.r κs .Denot) (s s′ : AtExit (endedOf 1 group-place-kinds.ps group-place-kinds.r) κs) where
-  pub group-place-unique : group-place.Post κs a r s → group-place.Post κs a r′ s′ → r ≡ r′
-  group-place-unique p q = p ∙ sym q
+pub group-place-unique : Unique group-place-kinds.ps group-place-kinds.r group-place.Post
+group-place-unique κs a r r′ s s′ p q = p ∙ sym q
 
-module _ (κs : Lfts 3) (a : Dens κs roomy-kinds.ps) (r r′ : resT roomy-kinds.r κs .Denot) (s s′ : AtExit (endedOf 3 roomy-kinds.ps roomy-kinds.r) κs) where
-  pub roomy-unique : roomy.Post κs a r s → roomy.Post κs a r′ s′ → r ≡ r′
-  roomy-unique p q = p ∙ sym q
+pub state-in-unique : Unique state-in-kinds.ps state-in-kinds.r state-in.Post
+state-in-unique κs a r r′ s s′ p q = p ∙ sym q
 
-module _ (κs : Lfts 3) (a : Dens κs written-kinds.ps) (r r′ : resT written-kinds.r κs .Denot) (s s′ : AtExit (endedOf 3 written-kinds.ps written-kinds.r) κs) where
-  pub written-unique : written.Post κs a r s → written.Post κs a r′ s′ → r ≡ r′
-  written-unique p q = p .0 ∙ sym (q .0)
+pub find-unique : Unique find-kinds.ps find-kinds.r find.Post
+find-unique κs a r r′ s s′ p q = p ∙ sym q
+
+pub owned-by-unique : Unique owned-by-kinds.ps owned-by-kinds.r owned-by.Post
+owned-by-unique κs a r r′ s s′ p q = p ∙ sym q
+
+pub any-group-unique : Unique any-group-kinds.ps any-group-kinds.r any-group.Post
+any-group-unique κs a r r′ s s′ p q = p ∙ sym q
+
+pub roomy-unique : Unique roomy-kinds.ps roomy-kinds.r roomy.Post
+roomy-unique κs a r r′ s s′ p q = p ∙ sym q
+
+pub written-unique : Unique written-kinds.ps written-kinds.r written.Post
+written-unique κs a r r′ s s′ p q = p .0 ∙ sym (q .0)

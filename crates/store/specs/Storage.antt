@@ -6,6 +6,8 @@ use mathlib.Core.Option.{Option, none, some}
 use lib.ListN.{getD, length, take, drop, replicate}
 use Rattle.rules.specs.Mark.{Mark}
 use Rattle.rules.specs.Ledger.{Group, Pair, Ledger}
+use Rattle.rules.specs.Placing.{Placing}
+use Rattle.rules.specs.Arrival.{byArrival}
 use Rattle.rules.specs.Written.{maxOwners}
 use Rattle.rows.specs.Layout as row
 use Rattle.order.specs.Walks.{left}
@@ -93,6 +95,10 @@ abbrev pub groupsFrom : ℕ → ℕ → Rows → List (ℕ × Group)
 groupsFrom i n rows = map groupOf (left i n rows)
 
 -- ---- the ledger ----
+
+-- our placing: entries in the order in which they came
+abbrev pub placing : Placing
+placing = byArrival
 
 abbrev pub groupCount : Contents → ℕ
 groupCount c = getD (c .head) row.groupCount 0

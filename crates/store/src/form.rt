@@ -83,13 +83,6 @@ fn distinct(list: &[u64]) -> bool
     true
 }
 
-// Whether a stored key is above its range.
-fn wide_key(key: u64) -> bool
-    ensures { λ r. ⌜ r ≡ wideKey key ⌝ }
-{
-    KEY_LIMIT <= key
-}
-
 // Whether a parameter of a group is out of its range.
 fn bad_parameters(row: [u64; GROUP_WORDS]) -> bool
     requires { ⌜ getD row nameLength 0 ≤ maxLetters ⌝ }
@@ -135,7 +128,7 @@ fn group_ok(row: [u64; GROUP_WORDS]) -> bool
     if !counted {
         return false;
     }
-    blank_ends(row) & (!wide_key(row[KEY_WORD]) & (good_owners(row) & !bad_parameters(row)))
+    blank_ends(row) & (!(KEY_LIMIT <= row[KEY_WORD]) & (good_owners(row) & !bad_parameters(row)))
 }
 
 // Whether every group is in its form and not there again further on.
@@ -170,7 +163,7 @@ fn pair_ok(groups: &[[u64; GROUP_WORDS]], count: usize, row: [u64; PAIR_WORDS]) 
     requires { ⌜ count ≤ length (now groups) ⌝ }
     ensures { λ r. ⌜ (r ≡ (not (wideKey (pairOf row .0 .1)) && (goodMark (pairOf row .1) && present (find eqb (groupsOf count (now (groups .entry))) (pairOf row .0 .0))))) × (pairRow (pairOf row) ≡ row) ⌝ }
 {
-    !wide_key(row[PAIR_RADIO])
+    !(KEY_LIMIT <= row[PAIR_RADIO])
         & (mark_ok(row) & stands(group_place(groups, 0, count, GroupKey(row[PAIR_GROUP]))))
 }
 

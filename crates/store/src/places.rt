@@ -87,13 +87,8 @@ pub fn state_in(row: [u64; PAIR_WORDS], group: GroupKey, radio: RadioKey) -> Fou
 pub fn find(pairs: &[[u64; PAIR_WORDS]], count: usize, group: GroupKey, radio: RadioKey) -> Found
     ensures { λ r. ⌜ r ≡ foundOf (find samePair (pairsOf count (now (pairs .entry))) (group .0, radio .0)) ⌝ }
 {
-    let end = lesser(count, pairs.len());
-    let mut i: usize = 0;
-    while i < end {
-        if let Found::Held(state) = state_in(pairs[i], group, radio) {
-            return Found::Held(state);
-        }
-        i += 1;
-    }
-    Found::Nothing
+    let Place::At(i) = pair_place(pairs, 0, count, group, radio) else {
+        return Found::Nothing;
+    };
+    state_in(pairs[i], group, radio)
 }

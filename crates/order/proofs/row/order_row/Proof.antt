@@ -1,0 +1,46 @@
+-- `order::order_row` meets its contract.
+use mathlib.Core.Path.{_≡_, sym, ap, _∙_}
+use Prim.Native.Nat.{ℕ}
+use lib.ListN.{length, take}
+use lib.Seq.{length-take-le}
+use native.Mathlib.Omega.{arith}
+use Rattle.order.specs.Row.{orderRowOf}
+use Rattle.order.proofs.Walks.{take-min}
+use borrow.Author.Needs.{needs}
+use Rattle.order.proofs.row.order_row.Statement.{statement}
+use Rattle.order.proofs.row.order_row.Tie as tie
+
+lesser-requires : tie.Need-lesser-requires
+lesser-requires c κs = search needs
+
+array-share-prefix-key : tie.Need-array-share-prefix-key
+array-share-prefix-key c =
+    let n : length (c .before .before .args .owners .key) ≡ 11 = search needs in
+    omega (arith, c .lesser .ensures)
+
+slice-aggregate-row-of : tie.Need-slice-aggregate-row-of
+slice-aggregate-row-of c =
+    let key = c .before .before .before .args .owners .key in
+    let n : length key ≡ 11 = search needs in
+    sym (length-take-le (c .before .lesser .result) key (omega (arith, c .before .lesser .ensures)))
+
+row-of-requires : tie.Need-row-of-requires
+row-of-requires c κs = search needs
+
+returns : tie.Need-returns
+returns c =
+    let a = c .before .before .before .before .args in
+    let key = a .owners .key in
+    let n : length key ≡ 11 = search needs in
+    let held = ap (λ (k : ℕ). take k key) (c .before .before .lesser .ensures) ∙ take-min (a .owners .count) 11 key n in
+    c .row-of .ensures ∙ ap (orderRowOf (a .place)) held
+
+pub order-row-spec : {M : Type 1} → statement M
+order-row-spec =
+    tie.close
+    (tie.spec
+    lesser-requires
+    array-share-prefix-key
+    slice-aggregate-row-of
+    row-of-requires
+    returns)
