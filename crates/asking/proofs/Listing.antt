@@ -90,32 +90,6 @@ entry-length x (y ∷ l) = go (ltb (x .0) (y .0)) (entry-length x l)
 
 -- ---- the list on lent contents ----
 
--- tests and further tests
-pub first-none : (a b : List (Refusal × Bool)) → first a ≡ none → first (a ++ b) ≡ first b
-first-none [] b e = refl
-first-none (t ∷ a) b e = go (t .1) (first-none a b) e
-  where
-    go : (x : Bool) → (first a ≡ none → first (a ++ b) ≡ first b) → cond x (some (t .0)) (first a) ≡ none → cond x (some (t .0)) (first (a ++ b)) ≡ first b
-    go true h e = let z : _≡_ {A = ℕ} 0 1 = cc in absurd (omega arith)
-    go false h e = h e
-
-pub first-some : (a b : List (Refusal × Bool)) (r : Refusal) → first a ≡ some r → first (a ++ b) ≡ some r
-first-some [] b r e = let z : _≡_ {A = ℕ} 0 1 = cc in absurd (omega arith)
-first-some (t ∷ a) b r e = go (t .1) (first-some a b r) e
-  where
-    go : (x : Bool) → (first a ≡ some r → first (a ++ b) ≡ some r) → cond x (some (t .0)) (first a) ≡ some r → cond x (some (t .0)) (first (a ++ b)) ≡ some r
-    go true h e = e
-    go false h e = h e
-
--- a reply tells the refusal
-pub reply-none : (o : Option Refusal) → Done ≡ replyOf o → o ≡ none
-reply-none none e = refl
-reply-none (some r) e = let z : _≡_ {A = ℕ} 0 1 = cc in absurd (omega arith)
-
-pub reply-some : (o : Option Refusal) (r : Refusal) → Refused r ≡ replyOf o → o ≡ some r
-reply-some none r e = let z : _≡_ {A = ℕ} 0 1 = cc in absurd (omega arith)
-reply-some (some x) r e = let q : x ≡ r = cc in ap some q
-
 module _ (c : Contents) (asker : Itsi) (group : Gtsi) (room : ℕ) where
   pub list-refused : (r : Refusal) → Refused r ≡ replyOf (judged c (showRefusal (view (ledgerOf c)) (asker .0) (group .0))) → (members.Refused r ≡ membersOf (listOn c asker group room)) × (listOn c asker group room .entries ≡ [])
   list-refused r e = go (isWritten c) (reply-some (judged c (showRefusal (view (ledgerOf c)) (asker .0) (group .0))) r e)

@@ -1,11 +1,7 @@
 -- Any two results that a function's contract allows are equal. `Post` is a contract's claim as the checker reads it.
 -- Assumes nothing.
-use Prim.Native.Nat.{ℕ}
-use mathlib.Core.Path.{_≡_, sym, _∙_}
-use mathlib.Core.List.{List}
-use borrow.Fn.Kinds.{PK, RK, Dens, resT, endedOf}
-use contract.Lifetimes.{Lfts}
-use denote.Triple.Clauses.{AtExit}
+use mathlib.Core.Path.{sym, _∙_}
+pub use Rattle.table.proofs.Unique.{Unique}
 use Rattle.order.proofs.lists.member.Kinds as member-kinds
 use Rattle.order.proofs.lists.member.Reads as member
 use Rattle.order.proofs.lists.wide.Kinds as wide-kinds
@@ -44,12 +40,6 @@ use Rattle.order.proofs.record.first_state.Kinds as first-state-kinds
 use Rattle.order.proofs.record.first_state.Reads as first-state
 use Rattle.order.proofs.row.order_row.Kinds as order-row-kinds
 use Rattle.order.proofs.row.order_row.Reads as order-row
-
--- of any arguments, at any exits, what the claim allows is one result
-abbrev pub Unique : {n : ℕ} (ps : List (PK n)) (res : RK n)
-    → ((κs : Lfts n) → Dens κs ps → resT res κs .Denot → AtExit (endedOf n ps res) κs → Type 0) → Type 0
-Unique {n} ps res Post =
-    (κs : Lfts n) (a : Dens κs ps) (r r′ : resT res κs .Denot) (s s′ : AtExit (endedOf n ps res) κs) → Post κs a r s → Post κs a r′ s′ → r ≡ r′
 
 pub member-unique : Unique member-kinds.ps member-kinds.r member.Post
 member-unique κs a r r′ s s′ p q = p ∙ sym q

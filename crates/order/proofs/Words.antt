@@ -20,9 +20,11 @@ words-at f (suc n) k zero h = let e : k ≡ k + 0 = omega arith in ap f e
 words-at f (suc n) k (suc j) h = let e : suc k + j ≡ k + suc j = omega arith in words-at f n (suc k) j (omega arith) ∙ ap f e
 
 pub words-all : (f : ℕ → ℕ) (n : ℕ) (row : List ℕ) → length row ≡ n → ((j : ℕ) → j < n → getD row j 0 ≡ f j) → row ≡ words f n 0
-words-all f n row e h = ext-getD 0 row (words f n 0) (e ∙ sym (length-words f n 0)) (λ j q. let m : j < n = omega arith in let z : 0 + j ≡ j = omega arith in h j m ∙ sym (words-at f n 0 j m ∙ ap f z))
+words-all f n row e h = ext-getD 0 row (words f n 0) (e ∙ sym (length-words f n 0))
+    (λ j q. let m : j < n = omega arith in let z : 0 + j ≡ j = omega arith in h j m ∙ sym (words-at f n 0 j m ∙ ap f z))
 
-pub words-more : (f : ℕ → ℕ) (row : List ℕ) (i v : ℕ) → i < length row → v ≡ f i → ((j : ℕ) → j < i → getD row j 0 ≡ f j) → (j : ℕ) → j < i + 1 → getD (set row i v) j 0 ≡ f j
+pub words-more : (f : ℕ → ℕ) (row : List ℕ) (i v : ℕ) → i < length row → v ≡ f i
+    → ((j : ℕ) → j < i → getD row j 0 ≡ f j) → (j : ℕ) → j < i + 1 → getD (set row i v) j 0 ≡ f j
 words-more f row i v h e w j q = go (eqb j i) refl
   where
     go : (b : Bool) → eqb j i ≡ b → getD (set row i v) j 0 ≡ f j

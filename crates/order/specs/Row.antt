@@ -5,8 +5,10 @@ use mathlib.Core.Option.{Option, none, some}
 use mathlib.Core.List.{List, [], _∷_}
 use lib.Dec.{eqb, ltb}
 use lib.ListN.{length, getD}
-use Rattle.rows.specs.Layout.{groupWords, keyWord, referenceWord, callWord, broadcastWord, classWord, lifetimeWord, nameLength, firstLetter, ownerCount, firstOwner}
-use Rattle.rules.specs.Recorded.{optionalNumber, optionalChoice, optionalName, setReference, acknowledgedCall, broadcast, classOfUsage, attachmentLifetime, temporaryAssignment}
+use Rattle.rows.specs.Layout.{groupWords, keyWord, referenceWord, callWord, broadcastWord, classWord, lifetimeWord}
+use Rattle.rows.specs.Layout.{nameLength, firstLetter, ownerCount, firstOwner}
+use Rattle.rules.specs.Recorded.{optionalNumber, optionalChoice, optionalName}
+use Rattle.rules.specs.Recorded.{setReference, acknowledgedCall, broadcast, classOfUsage, attachmentLifetime, temporaryAssignment}
 
 -- a value that may be absent, one up
 abbrev pub heldOf : Option ℕ → ℕ

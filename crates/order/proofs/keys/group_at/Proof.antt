@@ -1,6 +1,7 @@
 -- `order::group_at` meets its contract.
 use mathlib.Core.Path.{sym}
 use lib.ListN.{List·getD-eq-default, length-take}
+use Prim.Native.Nat.{_<_}
 use lib.Seq.{getD-take}
 use native.Mathlib.Omega.{arith}
 use Rattle.order.specs.Keys.{groupKeys}
@@ -21,7 +22,8 @@ array-read-t9 c = let h = few-groups (c .before .before .before .args .groups) (
 returns : tie.Need-returns
 returns c =
     let a = c .before .before .before .args in
-    sym (getD-take (a .groups .count) (a .groups .key) (a .i) 0 (omega (arith, c .before .before .group-count .ensures, length-take (a .groups .count) (a .groups .key))))
+    let h : a .i < a .groups .count = omega (arith, c .before .before .group-count .ensures, length-take (a .groups .count) (a .groups .key)) in
+    sym (getD-take (a .groups .count) (a .groups .key) (a .i) 0 h)
 
 returns-2 : tie.Need-returns-2
 returns-2 c =

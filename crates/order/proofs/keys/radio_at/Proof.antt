@@ -1,6 +1,7 @@
 -- `order::radio_at` meets its contract.
 use mathlib.Core.Path.{sym}
 use lib.ListN.{List·getD-eq-default, length-take}
+use Prim.Native.Nat.{_<_}
 use lib.Seq.{getD-take}
 use native.Mathlib.Omega.{arith}
 use Rattle.order.specs.Keys.{radioKeys}
@@ -21,7 +22,8 @@ array-read-t9 c = let h = few-radios (c .before .before .before .args .radios) (
 returns : tie.Need-returns
 returns c =
     let a = c .before .before .before .args in
-    sym (getD-take (a .radios .count) (a .radios .key) (a .i) 0 (omega (arith, c .before .before .radio-count .ensures, length-take (a .radios .count) (a .radios .key))))
+    let h : a .i < a .radios .count = omega (arith, c .before .before .radio-count .ensures, length-take (a .radios .count) (a .radios .key)) in
+    sym (getD-take (a .radios .count) (a .radios .key) (a .i) 0 h)
 
 returns-2 : tie.Need-returns-2
 returns-2 c =

@@ -1,0 +1,3 @@
+-- Laws that the orders' proofs share.
+pub mod Orders
+pub mod Says
