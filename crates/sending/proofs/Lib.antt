@@ -1,0 +1,3 @@
+-- Laws of outgoing orders.
+pub mod Pushing
+pub mod Unique

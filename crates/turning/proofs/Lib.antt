@@ -1,0 +1,3 @@
+-- Laws of turned pairs.
+pub mod Says
+pub mod Unique
