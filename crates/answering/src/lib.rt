@@ -76,7 +76,7 @@ pub fn tick(head: &[u64], groups: &[[u64; GROUP_WORDS]], pairs: &mut [[u64; PAIR
 }
 
 // Whether a pair is found, and open.
-fn open(found: Found) -> bool
+fn is_open(found: Found) -> bool
     ensures { λ r. ⌜ r ≡ foundOpen found ⌝ }
 {
     let Found::Held(state) = found else {
@@ -108,7 +108,7 @@ fn answer_fault(
     if !stands(group_place(groups, 0, group_count as usize, group_key(group))) {
         return Reply::Refused(Refusal::NoSuchGroup);
     }
-    if !open(find(
+    if !is_open(find(
         pairs,
         pair_count as usize,
         group_key(group),

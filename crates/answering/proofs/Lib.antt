@@ -1,0 +1,3 @@
+-- Laws of the orders that only reply.
+pub mod Answered
+pub mod Unique
