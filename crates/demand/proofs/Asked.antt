@@ -11,24 +11,27 @@ use Rattle.refusal.specs.declared.Refusal.the-variants.{NotWritten}
 use Rattle.layout.specs.declared.Record.{Record}
 use Rattle.rules.specs.Entries.{alter}
 use Rattle.rules.specs.Effect.{effect}
-use Rattle.rules.specs.Ledger.{Pair, empty, refused}
+use Rattle.rules.specs.Ledger.{Pair, empty, view}
+use Rattle.rules.specs.Steps.{refused}
 use Rattle.rules.specs.Mark as mark
 use Rattle.rules.specs.Order as order
+use Rattle.rules.specs.Refusals.{maxGroups, maxPairs}
+use Rattle.rows.specs.Layout.{headWords, groupWords, pairWords, orderWords}
 use Rattle.rules.specs.History.{_then_}
+use Rattle.order.specs.Steps.{answerStep, defineStep, deleteStep}
 use Rattle.store.specs.Lists.{onto}
-use Rattle.store.specs.Storage.{Contents, contents, pairRow, pairsOf, pairCount, ledgerOf, laid}
+use Rattle.store.specs.Storage.{Rows, Contents, contents, pairRow, pairsOf, pairCount, placing, ledgerOf, laid}
 use Rattle.store.specs.Form.{roomy, Sound}
-use Rattle.ledger.specs.Orders.{replyOf, verdict, after, answerOf}
-use Rattle.ledger.specs.Sending.{orderRow, sentOn, sentReply}
-use Rattle.ledger.specs.Defines.{defineStep}
-use Rattle.ledger.specs.Deletes.{deleteOf}
+use Rattle.replies.specs.Orders.{replyOf, verdict, contentsAfter}
+use Rattle.replies.specs.Sending.{orderRow, sentOn, sentReply}
 use Rattle.order.specs.declared.Gtsi.{Gtsi}
 use Rattle.order.specs.declared.Itsi.{Itsi}
 use Rattle.order.specs.declared.Numbers.{Numbers}
 use Rattle.order.specs.declared.Listed.{Listed}
-use Rattle.ledger.specs.declared.Reply.the-variants.{Done}
-use Rattle.ledger.proofs.Orders.{refused-stays, taken-after, turned-laid, ticked-laid}
-use Rattle.demand.specs.Calls.{Rows, Storage, Empties, Ticks, Answers, Defines, Deletes}
+use Rattle.replies.specs.declared.Reply.the-variants.{Done}
+use Rattle.replies.proofs.Orders.{refused-stays, taken-after}
+use Rattle.answering.proofs.Answered.{turned-laid, ticked-laid}
+use Rattle.demand.specs.Calls.{Storage, Empties, Ticks, Answers, Defines, Deletes}
 use Rattle.demand.specs.Runs.{Kept, begun, defined, deleted, answered, ticked}
 use Rattle.demand.specs.Asked as asked
 use Rattle.demand.specs.Asked.{Asked, historyOf, Reached}
@@ -43,10 +46,10 @@ lends c = record { head = lend (c .head); groups = lend (c .groups); pairs = len
 
 defines : (asker : Itsi) (values : Record) (room : Rows) (c : Contents)
     → let s = defineStep asker (values .place) (length room) in
-    Defines asker values room (onto (map orderRow (sentOn c s)) room) c (after c s) (sentReply (verdict c s) (length (sentOn c s)))
+    Defines asker values room (onto (map orderRow (sentOn c s)) room) c (contentsAfter c s) (sentReply (verdict c s) (length (sentOn c s)))
 defines asker values room c =
     let s = defineStep asker (values .place) (length room) in
-    let to = lends (after c s) in
+    let to = lends (contentsAfter c s) in
     record {
       lifetimes = ([], ([], ([], ([], tt))));
       lent = lends c;
@@ -54,17 +57,17 @@ defines asker values room c =
       left = (to .head, (to .groups, (to .pairs, (asker, (values, (lend (onto (map orderRow (sentOn c s)) room), tt))))));
       starts = refl;
       roomed = refl;
-      meets = (refl, refl, refl);
+      meets = record { replies = refl; leaves = refl; sends = refl };
       ends = refl;
       sends = refl;
     }
 
 deletes : (asker : Itsi) (named : Numbers) (remove deassign : Bool) (radios : Listed) (room : Rows) (c : Contents)
-    → let s = deleteOf asker named remove deassign radios (length room) in
-    Deletes asker named remove deassign radios room (onto (map orderRow (sentOn c s)) room) c (after c s) (sentReply (verdict c s) (length (sentOn c s)))
+    → let s = deleteStep asker named remove deassign radios (length room) in
+    Deletes asker named remove deassign radios room (onto (map orderRow (sentOn c s)) room) c (contentsAfter c s) (sentReply (verdict c s) (length (sentOn c s)))
 deletes asker named remove deassign radios room c =
-    let s = deleteOf asker named remove deassign radios (length room) in
-    let to = lends (after c s) in
+    let s = deleteStep asker named remove deassign radios (length room) in
+    let to = lends (contentsAfter c s) in
     record {
       lifetimes = ([], ([], ([], ([], tt))));
       lent = lends c;
@@ -72,47 +75,47 @@ deletes asker named remove deassign radios room c =
       left = (to .head, (to .groups, (to .pairs, (asker, (named, (remove, (deassign, (radios, (lend (onto (map orderRow (sentOn c s)) room), tt)))))))));
       starts = refl;
       roomed = refl;
-      meets = (refl, refl, refl);
+      meets = record { replies = refl; leaves = refl; sends = refl };
       ends = refl;
       sends = refl;
     }
 
 -- the groups' rows stay through an answer
-answer-stays : (radio : Itsi) (group : Gtsi) (result : ℕ) (c : Contents) → Sound c → after c (answerOf radio group result) .groups ≡ c .groups
-answer-stays radio group result c w = go (refused (ledgerOf c) (answerOf radio group result)) refl
+answer-stays : (radio : Itsi) (group : Gtsi) (result : ℕ) (c : Contents) → Sound c → contentsAfter c (answerStep radio group result) .groups ≡ c .groups
+answer-stays radio group result c w = go (refused placing (ledgerOf c) (answerStep radio group result)) refl
   where
     turns : ℕ → ℕ → mark.Mark → Option mark.Mark
-    turns = effect (answerOf radio group result) .turns
+    turns = effect (view (ledgerOf c)) (answerStep radio group result) .turns
 
-    go : (o : Option Refusal) → refused (ledgerOf c) (answerOf radio group result) ≡ o → after c (answerOf radio group result) .groups ≡ c .groups
-    go none e = ap (λ (x : Contents). x .groups) (taken-after c (answerOf radio group result) (w .form) e .1 ∙ sym (turned-laid c w turns _ _ refl refl))
-    go (some r) e = ap (λ (x : Contents). x .groups) (sym (refused-stays c (answerOf radio group result) r (λ i. replyOf (cond (sym (w .form) i) (sym e i) (some NotWritten)))))
+    go : (o : Option Refusal) → refused placing (ledgerOf c) (answerStep radio group result) ≡ o → contentsAfter c (answerStep radio group result) .groups ≡ c .groups
+    go none e = ap (λ (x : Contents). x .groups) (taken-after c (answerStep radio group result) (w .form) e .1 ∙ sym (turned-laid c w turns _ _ refl refl))
+    go (some r) e = ap (λ (x : Contents). x .groups) (sym (refused-stays c (answerStep radio group result) r (λ i. replyOf (cond (sym (w .form) i) (sym e i) (some NotWritten)))))
 
 answers : (radio : Itsi) (group : Gtsi) (result : ℕ) (c : Contents) → Sound c
-    → let s = answerOf radio group result in Answers radio group result c (after c s) (replyOf (verdict c s))
+    → let s = answerStep radio group result in Answers radio group result c (contentsAfter c s) (replyOf (verdict c s))
 answers radio group result c w =
-    let s = answerOf radio group result in
-    let to = lends (after c s) in
-    let e : contents (after c s .head) (c .groups) (after c s .pairs) ≡ after c s = λ i. contents (after c s .head) (sym (answer-stays radio group result c w) i) (after c s .pairs) in
+    let s = answerStep radio group result in
+    let to = lends (contentsAfter c s) in
+    let e : contents (contentsAfter c s .head) (c .groups) (contentsAfter c s .pairs) ≡ contentsAfter c s = λ i. contents (contentsAfter c s .head) (sym (answer-stays radio group result c w) i) (contentsAfter c s .pairs) in
     record {
       lifetimes = ([], ([], ([], tt)));
       lent = lends c;
       left = (to .head, (lend (c .groups), (to .pairs, (radio, (group, (result, tt))))));
       starts = refl;
-      meets = (refl, e);
+      meets = record { replies = refl; leaves = e };
       ends = e;
     }
 
-ticks : (c : Contents) → Sound c → Ticks c (after c order.tick) (replyOf (verdict c order.tick))
+ticks : (c : Contents) → Sound c → Ticks c (contentsAfter c order.tick) (replyOf (verdict c order.tick))
 ticks c w =
     let rows = onto (map pairRow (alter (λ (k : Pair) m. some (mark.ticked m)) (pairsOf (pairCount c) (c .pairs)))) (c .pairs) in
-    let e : contents (c .head) (c .groups) rows ≡ after c order.tick = ticked-laid c w rows refl ∙ sym (taken-after c order.tick (w .form) refl .1) in
+    let e : contents (c .head) (c .groups) rows ≡ contentsAfter c order.tick = ticked-laid c w rows refl ∙ sym (taken-after c order.tick (w .form) refl .1) in
     record {
       lifetimes = ([], ([], ([], tt)));
       lent = lends c;
       left = (lend (c .head), (lend (c .groups), (lend rows, tt)));
       starts = refl;
-      meets = (refl, e);
+      meets = record { replies = refl; leaves = e };
       ends = e;
     }
 
@@ -122,13 +125,17 @@ empties c r = record {
   lent = lends c;
   left = (lend (laid empty c .head), (lend (c .groups), (lend (c .pairs), tt)));
   starts = refl;
-  meets = (λ i. replyOf (cond (sym r i) none (some NotWritten)), λ i. cond (sym r i) (laid empty c) c);
+  meets = record { replies = λ i. replyOf (cond (sym r i) none (some NotWritten)); leaves = λ i. cond (sym r i) (laid empty c) c };
   ends = refl;
 }
 
+-- a row of a room for orders
+abbrev blank : List ℕ
+blank = replicate orderWords 0
+
 -- the space asked for
 abbrev space : Contents
-space = contents (replicate 2 0) (replicate 320 (replicate 36 0)) (replicate 2048 (replicate 4 0))
+space = contents (replicate headWords 0) (replicate maxGroups (replicate groupWords 0)) (replicate maxPairs (replicate pairWords 0))
 
 space-roomy : roomy space ≡ true
 space-roomy = refl
@@ -137,21 +144,21 @@ pub reached : (l : List Asked) → Reached (historyOf l)
 reached [] = record { left = laid empty space; kept = begun (empties space space-roomy) }
 reached (asked.define asker values n ∷ l) =
     let r = reached l in
-    let room : Rows = replicate n [] in
+    let room : Rows = replicate n blank in
     record {
-      left = after (r .left) (defineStep asker (values .place) (length room));
-      kept = subst (λ (m : ℕ). Kept (after (r .left) (defineStep asker (values .place) (length room))) (historyOf l then defineStep asker (values .place) m)) (length-replicate {A = List ℕ} n []) (defined (r .kept) (defines asker values room (r .left)));
+      left = contentsAfter (r .left) (defineStep asker (values .place) (length room));
+      kept = subst (λ (m : ℕ). Kept (contentsAfter (r .left) (defineStep asker (values .place) (length room))) (historyOf l then defineStep asker (values .place) m)) (length-replicate {A = List ℕ} n blank) (defined (r .kept) (defines asker values room (r .left)));
     }
 reached (asked.delete asker named remove deassign radios n ∷ l) =
     let r = reached l in
-    let room : Rows = replicate n [] in
+    let room : Rows = replicate n blank in
     record {
-      left = after (r .left) (deleteOf asker named remove deassign radios (length room));
-      kept = subst (λ (m : ℕ). Kept (after (r .left) (deleteOf asker named remove deassign radios (length room))) (historyOf l then deleteOf asker named remove deassign radios m)) (length-replicate {A = List ℕ} n []) (deleted (r .kept) (deletes asker named remove deassign radios room (r .left)));
+      left = contentsAfter (r .left) (deleteStep asker named remove deassign radios (length room));
+      kept = subst (λ (m : ℕ). Kept (contentsAfter (r .left) (deleteStep asker named remove deassign radios (length room))) (historyOf l then deleteStep asker named remove deassign radios m)) (length-replicate {A = List ℕ} n blank) (deleted (r .kept) (deletes asker named remove deassign radios room (r .left)));
     }
 reached (asked.answer radio group result ∷ l) =
     let r = reached l in
-    record { left = after (r .left) (answerOf radio group result); kept = answered (r .kept) (answers radio group result (r .left) (run-stands (r .kept) .sound)) }
+    record { left = contentsAfter (r .left) (answerStep radio group result); kept = answered (r .kept) (answers radio group result (r .left) (run-stands (r .kept) .sound)) }
 reached (asked.tick ∷ l) =
     let r = reached l in
-    record { left = after (r .left) order.tick; kept = ticked (r .kept) (ticks (r .left) (run-stands (r .kept) .sound)) }
+    record { left = contentsAfter (r .left) order.tick; kept = ticked (r .kept) (ticks (r .left) (run-stands (r .kept) .sound)) }

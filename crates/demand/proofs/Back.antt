@@ -9,32 +9,25 @@ use lib.ListN.{length, getD, take, drop, replicate, length-append, length-map, l
 use lib.Seq.{take-at, getD-at, drop-append-add}
 use borrow.Author.Tests.{leb-true, le-leb, not-true}
 use Rattle.rules.specs.Lists.{all, unique}
-use Rattle.rules.specs.Number.{wide}
-use Rattle.rules.specs.Parameters.{Parameters, tooLarge, badName, badParameters}
+use Rattle.rules.specs.Number.{wideKey}
+use Rattle.rules.specs.Parameters.{Parameters, badName, badParameters}
 use Rattle.rules.specs.Refusals.{maxGroups, maxPairs}
-use Rattle.rules.specs.Ledger.{Group, samePair, Ledger}
+use Rattle.rules.specs.Mark.{Mark}
+use Rattle.rules.specs.Ledger.{Group, Pair, samePair, Ledger}
 use Rattle.rules.specs.Entries.{distinct}
 use Rattle.rules.specs.Written.{maxOwners, goodOwners, goodGroup, goodPair, written}
 use Rattle.rules.proofs.Tests.{and-in, and-l, and-r, or-l, or-r}
+use Rattle.rules.proofs.Ranges.{in-range}
 use Rattle.rules.proofs.Written.{written-form}
 use Rattle.store.specs.Lists.{onto, Plain}
-use Rattle.store.specs.Storage.{Contents, pairOf, pairRow, groupOf, groupRow, owners, counted, groupCount, ledgerOf, laid}
+use Rattle.store.specs.Storage.{Contents, pairOf, pairRow, groupOf, groupRow, owners, counted, groupCount, placing, ledgerOf, laid}
 use Rattle.order.specs.Row.{lettersOf}
 use Rattle.store.specs.Form.{blank, tidy, roomy, within, isWritten, Sound}
 use Rattle.store.proofs.Rows.{onto-length}
 use Rattle.store.proofs.FormLaws.{room-of, sound}
-use Rattle.ledger.proofs.Defines.{pairs-back}
 use Rattle.store.proofs.Groups.{name-few, group-back}
 
 -- ---- a group in the law's form ----
-
-named-well : (p : Parameters) → badParameters p ≡ false → badName (p .name) ≡ false
-named-well p e =
-    let rest = tooLarge 8 (p .class) || (tooLarge 4 (p .lifetime) || (tooLarge 8 (p .temporary) || false)) in
-    let e₁ = or-r (tooLarge 8 (p .setReference)) (tooLarge 2 (p .acknowledgedCall) || (tooLarge 2 (p .broadcast) || (badName (p .name) || rest))) e in
-    let e₂ = or-r (tooLarge 2 (p .acknowledgedCall)) (tooLarge 2 (p .broadcast) || (badName (p .name) || rest)) e₁ in
-    let e₃ = or-r (tooLarge 2 (p .broadcast)) (badName (p .name) || rest) e₂ in
-    or-l (badName (p .name)) rest e₃
 
 module _ (e : ℕ × Group) (good : goodGroup e ≡ true) where
   abbrev os : List ℕ
@@ -44,14 +37,14 @@ module _ (e : ℕ × Group) (good : goodGroup e ≡ true) where
   p = e .1 .parameters
 
   own : goodOwners os && not (badParameters p) ≡ true
-  own = and-r (not (wide (e .0))) (goodOwners os && not (badParameters p)) good
+  own = and-r (not (wideKey (e .0))) (goodOwners os && not (badParameters p)) good
 
   name-fine : badName (p .name) ≡ false
-  name-fine = named-well p (not-true (badParameters p) (and-r (goodOwners os) (not (badParameters p)) own))
+  name-fine = in-range p (not-true (badParameters p) (and-r (goodOwners os) (not (badParameters p)) own)) .name
 
   owners-few : length os ≤ 11
   owners-few =
-      let rest = unique os && all (λ a. not (wide a)) os in
+      let rest = unique os && all (λ a. not (wideKey a)) os in
       let k = and-r (ltb 0 (length os)) (leb (length os) maxOwners && rest) (and-l (goodOwners os) (not (badParameters p)) own) in
       leb-true (length os) 11 (and-l (leb (length os) maxOwners) rest k)
 
@@ -82,6 +75,10 @@ module _ (e : ℕ × Group) (good : goodGroup e ≡ true) where
 
 -- ---- all of them ----
 
+pairs-back : (l : List (Pair × Mark)) → map pairOf (map pairRow l) ≡ l
+pairs-back [] = refl
+pairs-back (e ∷ l) = ap (λ (z : List (Pair × Mark)). e ∷ z) (pairs-back l)
+
 groups-back : (l : List (ℕ × Group)) → all goodGroup l ≡ true → map groupOf (map groupRow l) ≡ l
 groups-back [] h = refl
 groups-back (e ∷ l) h = λ i. good-back e (and-l (goodGroup e) (all goodGroup l) h) i ∷ groups-back l (and-r (goodGroup e) (all goodGroup l) h) i
@@ -92,7 +89,7 @@ groups-tidy (e ∷ l) h = and-in (good-tidy e (and-l (goodGroup e) (all goodGrou
 
 -- ---- the ledger, laid ----
 
-groups-good : (l : Ledger) → written l ≡ true → all goodGroup (l .groups) ≡ true
+groups-good : (l : Ledger) → written placing l ≡ true → all goodGroup (l .groups) ≡ true
 groups-good l h =
     let good = all goodGroup (l .groups) && all (goodPair l) (l .pairs) in
     let once = distinct eqb (l .groups) && (distinct samePair (l .pairs) && good) in
@@ -107,7 +104,7 @@ rows-plain itemOf rowOf [] rest e i h = absurd (omega arith)
 rows-plain itemOf rowOf (x ∷ l) rest e zero h = let q : itemOf (rowOf x) ≡ x = cc in ap rowOf q
 rows-plain itemOf rowOf (x ∷ l) rest e (suc i) h = let q : map itemOf (map rowOf l) ≡ l = cc in rows-plain itemOf rowOf l rest q i (omega arith)
 
-module _ (l : Ledger) (c : Contents) (fine : written l ≡ true) where
+module _ (l : Ledger) (c : Contents) (fine : written placing l ≡ true) where
   -- the groups' rows are those in use
   rows-in-use : take (length (l .groups)) (onto (map groupRow (l .groups)) (c .groups)) ≡ map groupRow (l .groups)
   rows-in-use = take-at (map groupRow (l .groups)) (drop (length (map groupRow (l .groups))) (c .groups)) (length (l .groups)) (length-map (l .groups) groupRow)
@@ -123,7 +120,7 @@ module _ (l : Ledger) (c : Contents) (fine : written l ≡ true) where
   -- the room stays
   laid-roomy : roomy c ≡ true → roomy (laid l c) ≡ true
   laid-roomy r =
-      let f = written-form l fine in
+      let f = written-form placing l fine in
       let s = room-of c r in
       let n : length (map groupRow (l .groups)) ≤ length (c .groups) = rw (length-map (l .groups) groupRow) (omega (arith, f .few-groups, s .groups)) in
       let m : length (map pairRow (l .pairs)) ≤ length (c .pairs) = rw (length-map (l .pairs) pairRow) (omega (arith, f .few-pairs, s .pairs)) in
@@ -134,24 +131,24 @@ module _ (l : Ledger) (c : Contents) (fine : written l ≡ true) where
   laid-written : roomy c ≡ true → isWritten (laid l c) ≡ true
   unfolding isWritten
   laid-written r =
-      let f = written-form l fine in
+      let f = written-form placing l fine in
       and-in (laid-roomy r)
       (and-in (and-in (le-leb (length (l .groups)) 320 (f .few-groups)) (le-leb (length (l .pairs)) 2048 (f .few-pairs)))
-      (and-in (ap (all tidy) rows-in-use ∙ groups-tidy (l .groups) (groups-good l fine)) (ap written back ∙ fine)))
+      (and-in (ap (all tidy) rows-in-use ∙ groups-tidy (l .groups) (groups-good l fine)) (ap (written placing) back ∙ fine)))
 
   -- and the rows in use are the rows of what they say
   pub laid-sound : roomy c ≡ true → Sound (laid l c)
   laid-sound r =
-      let f = written-form l fine in
+      let f = written-form placing l fine in
       sound (laid l c) (laid-written r) (room-of (laid l c) (laid-roomy r)) (record { groups = f .few-groups; pairs = f .few-pairs })
       (rows-plain groupOf groupRow (l .groups) (drop (length (map groupRow (l .groups))) (c .groups)) (groups-back (l .groups) (groups-good l fine)))
       (rows-plain pairOf pairRow (l .pairs) (drop (length (map pairRow (l .pairs))) (c .pairs)) (pairs-back (l .pairs)))
 
 -- ---- what the written form holds ----
 
-pub form-parts : (c : Contents) → isWritten c ≡ true → (roomy c ≡ true) × (written (ledgerOf c) ≡ true)
+pub form-parts : (c : Contents) → isWritten c ≡ true → (roomy c ≡ true) × (written placing (ledgerOf c) ≡ true)
 unfolding isWritten
 form-parts c h =
-    let rest = all tidy (take (groupCount c) (c .groups)) && written (ledgerOf c) in
+    let rest = all tidy (take (groupCount c) (c .groups)) && written placing (ledgerOf c) in
     let h₁ = and-r (roomy c) (within c && rest) h in
-    (and-l (roomy c) (within c && rest) h, and-r (all tidy (take (groupCount c) (c .groups))) (written (ledgerOf c)) (and-r (within c) rest h₁))
+    (and-l (roomy c) (within c && rest) h, and-r (all tidy (take (groupCount c) (c .groups))) (written placing (ledgerOf c)) (and-r (within c) rest h₁))

@@ -16,17 +16,16 @@ use Rattle.rules.specs.World.{World, Tally}
 use Rattle.rules.specs.Refusals.{first, tests, refusal, showRefusal, askTests, listRefusal, listTests}
 use Rattle.rules.specs.Effect.{effect}
 use Rattle.rules.specs.History.{History, _then_, world, namedIn, tallyIn, radiosIn, refusalIn, sentIn, listIn, showIn}
+use Rattle.order.specs.Steps.{answerStep, defineStep, deleteStep}
 use Rattle.store.specs.Storage.{Contents}
 use Rattle.store.specs.Form.{roomy}
-use Rattle.ledger.specs.Orders.{emptyVerdict, answerOf}
-use Rattle.ledger.specs.Defines.{defineStep}
-use Rattle.ledger.specs.Deletes.{deleteOf}
-use Rattle.ledger.specs.Sending.{sentReply}
-use Rattle.ledger.specs.Listing.{membersReply}
-use Rattle.ledger.specs.declared.Sent.the-variants as sending
-use Rattle.ledger.specs.declared.Members.the-variants as members
-use Rattle.ledger.specs.declared.Shown.{Shown}
-use Rattle.ledger.proofs.Listing.{reply-some}
+use Rattle.replies.specs.Orders.{emptyVerdict}
+use Rattle.replies.specs.Sending.{sentReply}
+use Rattle.replies.specs.Listing.{membersReply}
+use Rattle.replies.specs.declared.Sent.the-variants as sending
+use Rattle.replies.specs.declared.Members.the-variants as members
+use Rattle.replies.specs.declared.Shown.{Shown}
+use Rattle.replies.proofs.Orders.{reply-some}
 use Rattle.demand.specs.Runs.{Kept}
 use Rattle.demand.specs.Demand.{Never18}
 use Rattle.demand.proofs.Back.{form-parts}
@@ -63,7 +62,7 @@ show-not18 w asker g = first-not18 (askTests w asker g) refl
 -- ---- over a run ----
 
 in-history : (h : History) (s : Step) → refusalIn h s ≡ some NotWritten → ⊥
-in-history h s = step-not18 (world h) (tallyIn (world h) (namedIn (h then s)) (effect s)) s
+in-history h s = step-not18 (world h) (tallyIn (world h) (namedIn (h then s)) (effect (world h) s)) s
 
 sent-some : (o : Option Refusal) (n : ℕ) (r : Refusal) → sending.Refused r ≡ sentReply o n → o ≡ some r
 sent-some none n r e = let z : _≡_ {A = ℕ} 0 1 = cc in absurd (omega arith)
@@ -82,14 +81,14 @@ never18 {c} {h} k =
     record {
       defines = λ {asker} {values} {room} e. let s = defineStep asker (values .place) (length room) in
           in-history h s (sent-some (refusalIn h s) (length (sentIn h s)) NotWritten (f .defines e .0));
-      deletes = λ {asker} {named} {remove} {deassign} {radios} {room} e. let s = deleteOf asker named remove deassign radios (length room) in
+      deletes = λ {asker} {named} {remove} {deassign} {radios} {room} e. let s = deleteStep asker named remove deassign radios (length room) in
           in-history h s (sent-some (refusalIn h s) (length (sentIn h s)) NotWritten (f .deletes e .0));
-      answers = λ {radio} {group} {result} e. let s = answerOf radio group result in
+      answers = λ {radio} {group} {result} e. let s = answerStep radio group result in
           in-history h s (reply-some (refusalIn h s) NotWritten (f .answers e));
       ticks = λ e. in-history h tick (reply-some (refusalIn h tick) NotWritten (f .ticks e));
       lists = λ {asker} {group} {room} e. let l = listIn h (asker .0) (group .0) (length room) in
           list-not18 (world h) (asker .0) (group .0) (radiosIn h (group .0)) (length room) (members-some (l .refused) (length (l .entries)) NotWritten (f .lists e .0));
       shows = λ {asker} {group} e q. let o = showIn h (asker .0) (group .0) .refused in
           show-not18 (world h) (asker .0) (group .0) (reply-some o NotWritten (sym q ∙ ap (λ (x : Shown). x .reply) (f .shows e)));
-      empties = λ e. roomy-begins c (form-parts c (f .written) .0) (reply-some (emptyVerdict c) NotWritten (empty-says e .0));
+      empties = λ e. roomy-begins c (form-parts c (f .written) .0) (reply-some (emptyVerdict c) NotWritten (empty-says e .replies));
     }

@@ -5,10 +5,8 @@ use Prim.Native.Nat.{ℕ}
 use Rattle.layout.specs.declared.Record.{Record}
 use Rattle.rules.specs.Order as order
 use Rattle.rules.specs.History.{History, start, _then_}
+use Rattle.order.specs.Steps.{answerStep, defineStep, deleteStep}
 use Rattle.store.specs.Storage.{Contents}
-use Rattle.ledger.specs.Orders.{answerOf}
-use Rattle.ledger.specs.Defines.{defineStep}
-use Rattle.ledger.specs.Deletes.{deleteOf}
 use Rattle.order.specs.declared.Gtsi.{Gtsi}
 use Rattle.order.specs.declared.Itsi.{Itsi}
 use Rattle.order.specs.declared.Numbers.{Numbers}
@@ -24,8 +22,8 @@ pub data Asked : Type 0 where
 
 abbrev pub stepOf : Asked → order.Step
 stepOf (define asker values room) = defineStep asker (values .place) room
-stepOf (delete asker named remove deassign radios room) = deleteOf asker named remove deassign radios room
-stepOf (answer radio group result) = answerOf radio group result
+stepOf (delete asker named remove deassign radios room) = deleteStep asker named remove deassign radios room
+stepOf (answer radio group result) = answerStep radio group result
 stepOf tick = order.tick
 
 -- the last asked stands first

@@ -11,33 +11,29 @@ use borrow.Fn.Kinds.{endedOf}
 use denote.Triple.Clauses.{AtExit}
 use denote.Ref.{RefT, now}
 use Rattle.layout.specs.declared.Record.{Record}
-use Rattle.store.specs.Storage.{Contents, contents}
+use Rattle.store.specs.Storage.{Rows, Contents, contents}
 use Rattle.order.specs.declared.Gtsi.{Gtsi}
 use Rattle.order.specs.declared.Itsi.{Itsi}
 use Rattle.order.specs.declared.Numbers.{Numbers}
 use Rattle.order.specs.declared.Listed.{Listed}
-use Rattle.ledger.specs.declared.Reply.{Reply}
-use Rattle.ledger.specs.declared.Sent.{Sent}
-use Rattle.ledger.specs.declared.Members.{Members}
-use Rattle.ledger.specs.declared.Shown.{Shown}
-use Rattle.ledger.proofs.empty.Kinds as empty-kinds
-use Rattle.ledger.proofs.empty.Reads as empty
-use Rattle.ledger.proofs.tick.Kinds as tick-kinds
-use Rattle.ledger.proofs.tick.Reads as tick
-use Rattle.ledger.proofs.answer.Kinds as answer-kinds
-use Rattle.ledger.proofs.answer.Reads as answer
-use Rattle.ledger.proofs.define.Kinds as define-kinds
-use Rattle.ledger.proofs.define.Reads as define
-use Rattle.ledger.proofs.delete.Kinds as delete-kinds
-use Rattle.ledger.proofs.delete.Reads as delete
-use Rattle.ledger.proofs.list.Kinds as list-kinds
-use Rattle.ledger.proofs.list.Reads as list
-use Rattle.ledger.proofs.show.Kinds as show-kinds
-use Rattle.ledger.proofs.show.Reads as show
-
--- rows of words
-abbrev pub Rows : Type 0
-Rows = List (List ℕ)
+use Rattle.replies.specs.declared.Reply.{Reply}
+use Rattle.replies.specs.declared.Sent.{Sent}
+use Rattle.replies.specs.declared.Members.{Members}
+use Rattle.replies.specs.declared.Shown.{Shown}
+use Rattle.answering.proofs.empty.Kinds as empty-kinds
+use Rattle.answering.proofs.empty.Reads as empty
+use Rattle.answering.proofs.tick.Kinds as tick-kinds
+use Rattle.answering.proofs.tick.Reads as tick
+use Rattle.answering.proofs.answer.Kinds as answer-kinds
+use Rattle.answering.proofs.answer.Reads as answer
+use Rattle.defining.proofs.define.Kinds as define-kinds
+use Rattle.defining.proofs.define.Reads as define
+use Rattle.deleting.proofs.delete.Kinds as delete-kinds
+use Rattle.deleting.proofs.delete.Reads as delete
+use Rattle.asking.proofs.list.Kinds as list-kinds
+use Rattle.asking.proofs.list.Reads as list
+use Rattle.asking.proofs.show.Kinds as show-kinds
+use Rattle.asking.proofs.show.Reads as show
 
 -- the ledger's three lent places
 pub record Storage : Type 0 where

@@ -12,31 +12,30 @@ use Rattle.rules.specs.Replies as replies
 use Rattle.rules.specs.History.{History, owner, radiosIn, refusalIn, sentIn, listIn, showIn}
 use Rattle.rules.specs.Run.{run}
 use Rattle.rules.specs.Demand.{Exactly, Tells}
+use Rattle.order.specs.Steps.{answerStep, defineStep, deleteStep}
 use Rattle.store.specs.Lists.{onto}
-use Rattle.store.specs.Storage.{Contents, ledgerOf}
+use Rattle.store.specs.Storage.{Rows, Contents, placing, ledgerOf}
 use Rattle.store.specs.Form.{isWritten}
-use Rattle.ledger.specs.Orders.{replyOf, answerOf}
-use Rattle.ledger.specs.Sending.{orderRow, sentReply}
-use Rattle.ledger.specs.Defines.{defineStep}
-use Rattle.ledger.specs.Deletes.{deleteOf}
-use Rattle.ledger.specs.Listing.{entryRow, membersOf}
-use Rattle.ledger.specs.Showing.{shownAs, shownOf}
+use Rattle.replies.specs.Orders.{replyOf}
+use Rattle.replies.specs.Sending.{orderRow, sentReply}
+use Rattle.replies.specs.Listing.{entryRow, membersOf}
+use Rattle.replies.specs.Showing.{shownAs, shownOf}
 use Rattle.order.specs.declared.Gtsi.{Gtsi}
 use Rattle.order.specs.declared.Itsi.{Itsi}
 use Rattle.order.specs.declared.Numbers.{Numbers}
 use Rattle.order.specs.declared.Listed.{Listed}
-use Rattle.ledger.specs.declared.Reply.{Reply}
-use Rattle.ledger.specs.declared.Reply.the-variants.{Done, Refused}
-use Rattle.ledger.specs.declared.Sent.{Sent}
-use Rattle.ledger.specs.declared.Sent.the-variants as sending
-use Rattle.ledger.specs.declared.Members.{Members}
-use Rattle.ledger.specs.declared.Members.the-variants as members
-use Rattle.ledger.specs.declared.Shown.{Shown}
-use Rattle.demand.specs.Calls.{Rows, Empties, Ticks, Answers, Defines, Deletes, Lists, Shows}
+use Rattle.replies.specs.declared.Reply.{Reply}
+use Rattle.replies.specs.declared.Reply.the-variants.{Done, Refused}
+use Rattle.replies.specs.declared.Sent.{Sent}
+use Rattle.replies.specs.declared.Sent.the-variants as sending
+use Rattle.replies.specs.declared.Members.{Members}
+use Rattle.replies.specs.declared.Members.the-variants as members
+use Rattle.replies.specs.declared.Shown.{Shown}
+use Rattle.demand.specs.Calls.{Empties, Ticks, Answers, Defines, Deletes, Lists, Shows}
 
 -- the reply counts the entries, they are the first rows of the room, and the rows past them are as they were
 pub record ListsExactly (h : History) (g : ℕ) (room listed : Rows) (reply : Members) : Type 0 where
-  pub entries : List replies.Listed
+  pub entries : List replies.Entry
   pub counts : reply ≡ members.Radios (length entries)
   pub rows : listed ≡ onto (map entryRow entries) room
   pub exact : Exactly h g entries
@@ -52,7 +51,7 @@ pub record ShowsExactly (h : History) (g : ℕ) (reply : Shown) : Type 0 where
 pub record Faithful (c : Contents) (h : History) : Type 0 where
   -- the contents are in their written form, and hold the ledger of the history
   pub written : isWritten c ≡ true
-  pub holds : ledgerOf c ≡ run h
+  pub holds : ledgerOf c ≡ run placing h
   -- every order is accepted or refused as the history says, and sends what it says
   pub defines : {asker : Itsi} {values : Record} {room sent : Rows} {c′ : Contents} {reply : Sent}
       → Defines asker values room sent c c′ reply
@@ -60,10 +59,10 @@ pub record Faithful (c : Contents) (h : History) : Type 0 where
       (reply ≡ sentReply (refusalIn h s) (length (sentIn h s))) × (sent ≡ onto (map orderRow (sentIn h s)) room)
   pub deletes : {asker : Itsi} {named : Numbers} {remove deassign : Bool} {radios : Listed} {room sent : Rows} {c′ : Contents} {reply : Sent}
       → Deletes asker named remove deassign radios room sent c c′ reply
-      → let s = deleteOf asker named remove deassign radios (length room) in
+      → let s = deleteStep asker named remove deassign radios (length room) in
       (reply ≡ sentReply (refusalIn h s) (length (sentIn h s))) × (sent ≡ onto (map orderRow (sentIn h s)) room)
   pub answers : {radio : Itsi} {group : Gtsi} {result : ℕ} {c′ : Contents} {reply : Reply}
-      → Answers radio group result c c′ reply → reply ≡ replyOf (refusalIn h (answerOf radio group result))
+      → Answers radio group result c c′ reply → reply ≡ replyOf (refusalIn h (answerStep radio group result))
   pub ticks : {c′ : Contents} {reply : Reply} → Ticks c c′ reply → reply ≡ Done
   -- every list and every show is the history's, refused ones too
   pub lists : {asker : Itsi} {group : Gtsi} {room listed : Rows} {reply : Members}

@@ -6,18 +6,16 @@ use lib.ListN.{length}
 use Rattle.layout.specs.declared.Record.{Record}
 use Rattle.rules.specs.Order.{tick}
 use Rattle.rules.specs.History.{History, start, _then_}
-use Rattle.store.specs.Storage.{Contents}
-use Rattle.ledger.specs.Orders.{answerOf}
-use Rattle.ledger.specs.Defines.{defineStep}
-use Rattle.ledger.specs.Deletes.{deleteOf}
+use Rattle.order.specs.Steps.{answerStep, defineStep, deleteStep}
+use Rattle.store.specs.Storage.{Rows, Contents}
 use Rattle.order.specs.declared.Gtsi.{Gtsi}
 use Rattle.order.specs.declared.Itsi.{Itsi}
 use Rattle.order.specs.declared.Numbers.{Numbers}
 use Rattle.order.specs.declared.Listed.{Listed}
-use Rattle.ledger.specs.declared.Reply.{Reply}
-use Rattle.ledger.specs.declared.Reply.the-variants.{Done}
-use Rattle.ledger.specs.declared.Sent.{Sent}
-use Rattle.demand.specs.Calls.{Rows, Empties, Ticks, Answers, Defines, Deletes}
+use Rattle.replies.specs.declared.Reply.{Reply}
+use Rattle.replies.specs.declared.Reply.the-variants.{Done}
+use Rattle.replies.specs.declared.Sent.{Sent}
+use Rattle.demand.specs.Calls.{Empties, Ticks, Answers, Defines, Deletes}
 
 -- the contents after a run, and its history. An order stands in the history whatever its reply was
 pub data Kept : Contents → History → Type 0 where
@@ -25,8 +23,8 @@ pub data Kept : Contents → History → Type 0 where
   defined : {c c′ : Contents} {h : History} {asker : Itsi} {values : Record} {room sent : Rows} {reply : Sent}
       → Kept c h → Defines asker values room sent c c′ reply → Kept c′ (h then defineStep asker (values .place) (length room))
   deleted : {c c′ : Contents} {h : History} {asker : Itsi} {named : Numbers} {remove deassign : Bool} {radios : Listed} {room sent : Rows} {reply : Sent}
-      → Kept c h → Deletes asker named remove deassign radios room sent c c′ reply → Kept c′ (h then deleteOf asker named remove deassign radios (length room))
+      → Kept c h → Deletes asker named remove deassign radios room sent c c′ reply → Kept c′ (h then deleteStep asker named remove deassign radios (length room))
   answered : {c c′ : Contents} {h : History} {radio : Itsi} {group : Gtsi} {result : ℕ} {reply : Reply}
-      → Kept c h → Answers radio group result c c′ reply → Kept c′ (h then answerOf radio group result)
+      → Kept c h → Answers radio group result c c′ reply → Kept c′ (h then answerStep radio group result)
   ticked : {c c′ : Contents} {h : History} {reply : Reply}
       → Kept c h → Ticks c c′ reply → Kept c′ (h then tick)

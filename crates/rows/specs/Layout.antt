@@ -18,6 +18,12 @@ pairCount = 1
 abbrev pub groupWords : ℕ
 groupWords = 36
 
+abbrev pub pairWords : ℕ
+pairWords = 4
+
+abbrev pub orderWords : ℕ
+orderWords = 3
+
 abbrev pub maxLetters : ℕ
 maxLetters = 16
 
