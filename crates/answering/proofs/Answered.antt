@@ -49,7 +49,6 @@ module _ (c : Contents) (w : Sound c) where
       let e : n ≡ length (alter (λ (k : Pair) m. some (ticked m)) (pairsOf n (c .pairs))) = sym (alter-length (λ (k : Pair) m. ticked m) (pairsOf n (c .pairs)) ∙ count-pairs c w) in
       ap (λ (z : List ℕ). contents z (c .groups) rows) (sym (set-getD (c .head) 1 0)) ∙ turned-laid (λ g r m. some (ticked m)) n rows e d
 
-
 -- an answer turns its one pair
 module _ (m : Mark) where
   confirms : (x y : Bool) → some (cond ((x || false) && (y || false)) (fresh confirmed) m) ≡ cond (x && y) (some (fresh confirmed)) (some m)
@@ -69,7 +68,6 @@ answered-turn g r result k m = go (eqb result 1)
     go true = confirms m (eqb (k .0) g) (eqb (k .1) r)
     go false = leaves m (eqb (k .0) g) (eqb (k .1) r)
 
-
 -- no group and no pair is left
 pub empty-laid : (c : Contents) → Room c → contents (set (set (c .head) 0 0) 1 0) (c .groups) (c .pairs) ≡ laid empty c
 empty-laid c r = ap (λ (z : List ℕ). contents z (c .groups) (c .pairs)) (go (c .head) (r .head))
@@ -78,7 +76,6 @@ empty-laid c r = ap (λ (z : List ℕ). contents z (c .groups) (c .pairs)) (go (
     go [] h = absurd (omega arith)
     go (a ∷ []) h = absurd (omega arith)
     go (a ∷ b ∷ l) h = refl
-
 
 pub answered-laid : (c : Contents) → Sound c → (radio : Itsi) (group : Gtsi) (result : ℕ) (turn : Turn) (n : ℕ) (rows : List (List ℕ)) → turn ≡ answerTurn result → n ≡ length (alter (turnOf turn (group .0 ∷ []) (radio .0 ∷ [])) (pairsOf (pairCount c) (c .pairs))) → rows ≡ onto (map pairRow (alter (turnOf turn (group .0 ∷ []) (radio .0 ∷ [])) (pairsOf (pairCount c) (c .pairs)))) (c .pairs) → contents (set (c .head) 1 n) (c .groups) rows ≡ laid (apply placing (ledgerOf c) (effect (view (ledgerOf c)) (answerStep radio group result))) c
 answered-laid c w radio group result turn n rows t e d =

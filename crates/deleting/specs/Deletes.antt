@@ -13,7 +13,6 @@ use Rattle.rules.specs.Number.{wide, badList, untaken}
 use Rattle.rules.specs.Ledger.{Group, Pair}
 use Rattle.order.specs.Lists.{listOf}
 use Rattle.order.specs.declared.Itsi.{Itsi}
-use Rattle.order.specs.declared.RadioKey.{RadioKey}
 use Rattle.order.specs.declared.Listed.{Listed}
 use Rattle.store.specs.Named.{groupFault}
 use Rattle.store.specs.declared.Standing.the-variants.{Missing, Foreign}
@@ -30,10 +29,10 @@ formTests asker groups deassign radios =
     ∷ []
 
 -- and those of what stands
-abbrev pub standTests : List (ℕ × Group) → List (Pair × Mark) → RadioKey → List ℕ → Bool → Bool → Bool → List ℕ → ℕ → List (Refusal × Bool)
+abbrev pub standTests : List (ℕ × Group) → List (Pair × Mark) → ℕ → List ℕ → Bool → Bool → Bool → List ℕ → ℕ → List (Refusal × Bool)
 standTests groups pairs asker named remove deassign listed radios room =
-    (NoSuchGroup, any (λ g. groupFault Missing (find eqb groups g) (asker .0)) named)
-    ∷ (NotOwner, any (λ g. groupFault Foreign (find eqb groups g) (asker .0)) named)
+    (NoSuchGroup, any (λ g. groupFault Missing (find eqb groups g) asker) named)
+    ∷ (NotOwner, any (λ g. groupFault Foreign (find eqb groups g) asker) named)
     ∷ (NothingToDo, not remove && not deassign)
     ∷ (NoRoom, ltb room (length (leavingOrders deassign listed radios pairs named)))
     ∷ []

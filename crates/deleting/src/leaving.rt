@@ -25,7 +25,8 @@ fn found_among(
     out: &mut [u64],
 ) -> usize
     requires { ⌜ (count ≤ length (now pairs)) × (length (radioKeys radios) ≤ length (now out)) ⌝ }
-    ensures { λ r. ⌜ (r ≡ length (among (pairsOf count (now (pairs .entry))) (group .0) (radioKeys radios))) × (now (out .exit) ≡ onto (among (pairsOf count (now (pairs .entry))) (group .0) (radioKeys radios)) (now (out .entry))) ⌝ }
+    ensures { λ r. ⌜ (r ≡ length (among (pairsOf count (now (pairs .entry))) (group .0) (radioKeys radios)))
+        × (now (out .exit) ≡ onto (among (pairsOf count (now (pairs .entry))) (group .0) (radioKeys radios)) (now (out .entry))) ⌝ }
 {
     let mut kept: usize = 0;
     let mut i: usize = 0;
@@ -52,7 +53,9 @@ pub fn leaving(
     out: &mut [u64],
 ) -> usize
     requires { ⌜ (count ≤ length (now pairs)) × (count ≤ maxPairs) × (maxPairs ≤ length (now out)) ⌝ }
-    ensures { λ r. ⌜ (r ≡ length (leaving deassign listed (radioKeys radios) (pairsOf count (now (pairs .entry))) (group .0))) × (now (out .exit) ≡ onto (leaving deassign listed (radioKeys radios) (pairsOf count (now (pairs .entry))) (group .0)) (now (out .entry))) × (r ≤ maxPairs) ⌝ }
+    ensures { λ r. ⌜ (r ≡ length (leaving deassign listed (radioKeys radios) (pairsOf count (now (pairs .entry))) (group .0)))
+        × (now (out .exit) ≡ onto (leaving deassign listed (radioKeys radios) (pairsOf count (now (pairs .entry))) (group .0)) (now (out .entry)))
+        × (r ≤ maxPairs) ⌝ }
 {
     if !deassign {
         return 0;

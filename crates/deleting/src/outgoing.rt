@@ -9,7 +9,7 @@ use rows::ORDER_WORDS;
 use rows::PAIR_WORDS;
 use sending::DEASSIGN;
 use sending::push_orders;
-ghost use Prim.Native.Nat.{_≤_, _+_};
+ghost use Prim.Native.Nat.{_≤_};
 ghost use lib.ListN.{length};
 ghost use mathlib.Core.Path.{_≡_};
 ghost use Rattle.rules.specs.Refusals.{maxPairs};
@@ -60,8 +60,8 @@ pub fn send_orders(
     radios: Radios,
     out: &mut [[u64; ORDER_WORDS]],
 ) -> usize
-    requires { ⌜ (count ≤ length (now pairs)) × (count ≤ maxPairs) ×
-        (length (leavingOrders deassign listed (radioKeys radios) (pairsOf count (now pairs)) (groupKeys named)) ≤ length (now out)) ⌝ }
+    requires { ⌜ (count ≤ length (now pairs)) × (count ≤ maxPairs)
+        × (length (leavingOrders deassign listed (radioKeys radios) (pairsOf count (now pairs)) (groupKeys named)) ≤ length (now out)) ⌝ }
     ensures { λ r. ⌜ Fills orderRow (leavingOrders deassign listed (radioKeys radios) (pairsOf count (now (pairs .entry))) (groupKeys named))
         (now (out .entry)) (now (out .exit)) r ⌝ }
 {

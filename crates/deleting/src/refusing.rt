@@ -62,7 +62,7 @@ fn stand_fault(
 ) -> Reply
     requires { ⌜ («pair_count» ≤ length (now pairs)) × («pair_count» ≤ maxPairs) ⌝ }
     ensures { λ r. ⌜ r ≡ replyOf (first (standTests (groupsOf «group_count» (now (groups .entry))) (pairsOf «pair_count» (now (pairs .entry)))
-        asker (groupKeys named) remove deassign listed (radioKeys radios) room)) ⌝ }
+        (asker .0) (groupKeys named) remove deassign listed (radioKeys radios) room)) ⌝ }
 {
     if any_group(groups, group_count, named, asker, Standing::Missing) {
         return Reply::Refused(Refusal::NoSuchGroup);
@@ -94,7 +94,8 @@ pub fn delete_fault(
     those: Radios,
     room: usize,
 ) -> Reply
-    requires { ⌜ (named .given ≡ true) × (these ≡ groupsAs (numbersIn (listOf named))) × (those ≡ radiosAs (numbersIn (listOf radios))) ⌝ }
+    requires { ⌜ (named .given ≡ true) × (these ≡ groupsAs (numbersIn (listOf named)))
+        × (those ≡ radiosAs (numbersIn (listOf radios))) ⌝ }
     ensures { λ r. ⌜ Judges (contents (now (head .entry)) (now (groups .entry)) (now (pairs .entry)))
         (deleteStep asker (named .numbers) remove deassign radios room) r ⌝ }
 {

@@ -20,7 +20,8 @@ ghost use Rattle.deleting.specs.Leaving.{remaining};
 // The groups that go are taken out, the others close up in their order; their count is returned.
 fn remove_groups(groups: &mut [[u64; GROUP_WORDS]], count: usize, gone: &[u64]) -> usize
     requires { ⌜ (count ≤ length (now groups)) × Plain groupOf groupRow count (now groups) ⌝ }
-    ensures { λ r. ⌜ Fills groupRow (remaining (now (gone .entry)) (groupsOf count (now (groups .entry)))) (now (groups .entry)) (now (groups .exit)) r ⌝ }
+    ensures { λ r. ⌜ Fills groupRow (remaining (now (gone .entry)) (groupsOf count (now (groups .entry))))
+        (now (groups .entry)) (now (groups .exit)) r ⌝ }
 {
     let mut kept: usize = 0;
     let mut i: usize = 0;
@@ -43,7 +44,8 @@ pub fn delete_groups(
     remove: bool,
 ) -> usize
     requires { ⌜ (count ≤ length (now groups)) × Plain groupOf groupRow count (now groups) ⌝ }
-    ensures { λ r. ⌜ Fills groupRow (groupsLeft (groupKeys named) remove (groupsOf count (now (groups .entry)))) (now (groups .entry)) (now (groups .exit)) r ⌝ }
+    ensures { λ r. ⌜ Fills groupRow (groupsLeft (groupKeys named) remove (groupsOf count (now (groups .entry))))
+        (now (groups .entry)) (now (groups .exit)) r ⌝ }
 {
     if !remove {
         return count;

@@ -1,4 +1,4 @@
--- What each call's contract says of the contents before it and contentsAfter it, whatever places they were lent in.
+-- What each call's contract says of the contents before it and after it, whatever places they were lent in.
 use mathlib.Core.Path.{_≡_, sym, _∙_}
 use mathlib.Core.Bool.{Bool}
 use mathlib.Core.List.{map}

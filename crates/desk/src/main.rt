@@ -1,15 +1,19 @@
 // The desk of a yard: one ledger order a line on standard input, one reply a line.
 mod orders;
-mod replies;
-mod words;
 
+use ledger::GROUP_WORDS;
+use ledger::HEAD_WORDS;
+use ledger::MAX_GROUPS;
+use ledger::MAX_PAIRS;
+use ledger::PAIR_WORDS;
 use libc::STDERR_FILENO;
 use libc::STDIN_FILENO;
 use libc::STDOUT_FILENO;
 use orders::reply_to;
 ghost use Prim.Native.Nat.{_+_, _≤_};
 ghost use lib.ListN.{length};
-ghost use Rattle.desk.specs.Room.{longest, HeldIn};
+ghost use Rattle.text.specs.Put.{longest};
+ghost use Rattle.desk.specs.Room.{HeldIn};
 
 // How many bytes of a line are held of which the end has not come; or the input ended, or a call failed.
 enum Input {
@@ -31,8 +35,8 @@ fn send(reply: &[u8]) -> bool {
 fn say_by(
     line: &[u8],
     head: &mut [u64],
-    groups: &mut [[u64; 36]],
-    pairs: &mut [[u64; 4]],
+    groups: &mut [[u64; GROUP_WORDS]],
+    pairs: &mut [[u64; PAIR_WORDS]],
     out: &mut [u8],
 ) -> bool
     requires { ⌜ longest + 1 ≤ length (now out) ⌝ }
@@ -42,7 +46,12 @@ fn say_by(
 }
 
 // Answers a line: there is room for the longest reply.
-fn say(line: &[u8], head: &mut [u64], groups: &mut [[u64; 36]], pairs: &mut [[u64; 4]]) -> bool {
+fn say(
+    line: &[u8],
+    head: &mut [u64],
+    groups: &mut [[u64; GROUP_WORDS]],
+    pairs: &mut [[u64; PAIR_WORDS]],
+) -> bool {
     let mut out = io::large_buffer();
     say_by(line, head, groups, pairs, &mut out)
 }
@@ -53,8 +62,8 @@ fn take_byte(
     line: &mut [u8],
     held: usize,
     head: &mut [u64],
-    groups: &mut [[u64; 36]],
-    pairs: &mut [[u64; 4]],
+    groups: &mut [[u64; GROUP_WORDS]],
+    pairs: &mut [[u64; PAIR_WORDS]],
 ) -> Input
     requires { ⌜ held ≤ length (now line) ⌝ }
     ensures { λ r. ⌜ HeldIn (length (now (line .exit))) r ⌝ }
@@ -78,8 +87,8 @@ fn take_bytes(
     line: &mut [u8],
     held: usize,
     head: &mut [u64],
-    groups: &mut [[u64; 36]],
-    pairs: &mut [[u64; 4]],
+    groups: &mut [[u64; GROUP_WORDS]],
+    pairs: &mut [[u64; PAIR_WORDS]],
 ) -> Input
     requires { ⌜ held ≤ length (now line) ⌝ }
     ensures { λ r. ⌜ HeldIn (length (now (line .exit))) r ⌝ }
@@ -101,8 +110,8 @@ fn finish(
     line: &[u8],
     held: usize,
     head: &mut [u64],
-    groups: &mut [[u64; 36]],
-    pairs: &mut [[u64; 4]],
+    groups: &mut [[u64; GROUP_WORDS]],
+    pairs: &mut [[u64; PAIR_WORDS]],
 )
     requires { ⌜ held ≤ length (now line) ⌝ }
 {
@@ -132,8 +141,8 @@ fn turn(
     line: &mut [u8],
     held: usize,
     head: &mut [u64],
-    groups: &mut [[u64; 36]],
-    pairs: &mut [[u64; 4]],
+    groups: &mut [[u64; GROUP_WORDS]],
+    pairs: &mut [[u64; PAIR_WORDS]],
 ) -> Input
     requires { ⌜ held ≤ length (now line) ⌝ }
     ensures { λ r. ⌜ HeldIn (length (now (line .exit))) r ⌝ }
@@ -155,7 +164,12 @@ fn turn(
 }
 
 // A proved loop has to end, and nothing says that the input does: the turns are counted down from a number that no run uses up.
-fn attend(line: &mut [u8], head: &mut [u64], groups: &mut [[u64; 36]], pairs: &mut [[u64; 4]]) {
+fn attend(
+    line: &mut [u8],
+    head: &mut [u64],
+    groups: &mut [[u64; GROUP_WORDS]],
+    pairs: &mut [[u64; PAIR_WORDS]],
+) {
     let mut held = 0;
     let mut turns = u64::MAX;
     while 0 < turns {
@@ -170,8 +184,8 @@ fn attend(line: &mut [u8], head: &mut [u64], groups: &mut [[u64; 36]], pairs: &m
 // The longest line is a D with the longest house text, 457 bytes; one more shows that a line is too long.
 fn main() {
     let mut line = [0u8; 458];
-    let mut head = [0u64; 2];
-    let mut groups = [[0u64; 36]; 320];
-    let mut pairs = [[0u64; 4]; 2048];
+    let mut head = [0u64; HEAD_WORDS];
+    let mut groups = [[0u64; GROUP_WORDS]; MAX_GROUPS];
+    let mut pairs = [[0u64; PAIR_WORDS]; MAX_PAIRS];
     attend(&mut line, &mut head, &mut groups, &mut pairs);
 }

@@ -1,34 +1,37 @@
 // The orders: a line is read, given to the ledger, and answered. A line that is no order is refused as bad and changes nothing.
-use crate::replies::PLACES;
-use crate::replies::least;
-use crate::replies::put_byte;
-use crate::replies::put_listed;
-use crate::replies::put_reply;
-use crate::replies::put_sent;
-use crate::replies::put_shown;
-use crate::replies::refuse;
-use crate::words::choice;
-use crate::words::digits;
-use crate::words::mark;
-use crate::words::number;
-use crate::words::room;
-use crate::words::series;
-use crate::words::series_or_none;
-use crate::words::word;
 use frame::Kind;
 use frame::Reading;
 use frame::Verdict;
 use house::Line;
+use ledger::ENTRY_WORDS;
+use ledger::GROUP_WORDS;
+use ledger::Gtsi;
+use ledger::Itsi;
+use ledger::Listed;
+use ledger::MAX_PAIRS;
+use ledger::Numbers;
+use ledger::ORDER_WORDS;
+use ledger::PAIR_WORDS;
 use ledger::Reply;
-use order::Gtsi;
-use order::Itsi;
-use order::Listed;
-use order::Numbers;
 use refusal::Refusal;
+use rows::lesser;
+use text::put_listed;
+use text::put_reply;
+use text::put_sent;
+use text::put_shown;
+use text::refuse;
+use words::choice;
+use words::digits;
+use words::mark;
+use words::number;
+use words::room;
+use words::series;
+use words::series_or_none;
+use words::word;
 ghost use mathlib.Core.Path.{_≡_};
 ghost use Prim.Native.Nat.{_+_, _≤_};
 ghost use lib.ListN.{length};
-ghost use Rattle.desk.specs.Room.{longest};
+ghost use Rattle.text.specs.Put.{longest};
 
 // The most bytes of a frame.
 const FRAME_BYTES: usize = 213;
@@ -40,28 +43,27 @@ enum Heading {
 }
 
 // Room for the most orders.
-fn order_places() -> [[u64; 3]; PLACES]
+fn order_places() -> [[u64; ORDER_WORDS]; MAX_PAIRS]
     ensures { λ r. ⌜ 2048 ≡ length r ⌝ }
 {
-    [[0; 3]; PLACES]
+    [[0; ORDER_WORDS]; MAX_PAIRS]
 }
 
 // Room for the most radios.
-fn radio_places() -> [[u64; 2]; PLACES]
+fn radio_places() -> [[u64; ENTRY_WORDS]; MAX_PAIRS]
     ensures { λ r. ⌜ 2048 ≡ length r ⌝ }
 {
-    [[0; 2]; PLACES]
+    [[0; ENTRY_WORDS]; MAX_PAIRS]
 }
 
 // E: an empty ledger.
 fn clear(
     line: &[u8],
     head: &mut [u64],
-    groups: &[[u64; 36]],
-    pairs: &[[u64; 4]],
+    groups: &[[u64; GROUP_WORDS]],
+    pairs: &[[u64; PAIR_WORDS]],
     out: &mut [u8],
 ) -> usize
-    requires { ⌜ longest ≤ length (now out) ⌝ }
     ensures { λ r. ⌜ r ≤ longest ⌝ }
 {
     if line.len() != 1 {
@@ -85,7 +87,7 @@ fn define_heading(text: &[u8]) -> Heading {
 fn pack(text: &[u8], bytes: &mut [u8]) -> usize
     ensures { λ r. ⌜ r ≤ length (now (bytes .exit)) ⌝ }
 {
-    let count = least(text.len() / 2, bytes.len());
+    let count = lesser(text.len() / 2, bytes.len());
     let mut i = 0;
     while i < count {
         let byte = digits(text, 2 * i, 2);
@@ -106,13 +108,12 @@ fn read_define(text: &[u8], bits: usize) -> Reading {
 fn define_by(
     text: &[u8],
     head: &mut [u64],
-    groups: &mut [[u64; 36]],
-    pairs: &mut [[u64; 4]],
+    groups: &mut [[u64; GROUP_WORDS]],
+    pairs: &mut [[u64; PAIR_WORDS]],
     asker: Itsi,
-    rows: &mut [[u64; 3]],
+    rows: &mut [[u64; ORDER_WORDS]],
     out: &mut [u8],
 ) -> usize
-    requires { ⌜ longest ≤ length (now out) ⌝ }
     ensures { λ r. ⌜ r ≤ longest ⌝ }
 {
     let Heading::Define(bits) = define_heading(text) else {
@@ -132,11 +133,10 @@ fn define_by(
 fn define(
     line: &[u8],
     head: &mut [u64],
-    groups: &mut [[u64; 36]],
-    pairs: &mut [[u64; 4]],
+    groups: &mut [[u64; GROUP_WORDS]],
+    pairs: &mut [[u64; PAIR_WORDS]],
     out: &mut [u8],
 ) -> usize
-    requires { ⌜ longest ≤ length (now out) ⌝ }
     ensures { λ r. ⌜ r ≤ longest ⌝ }
 {
     let asker = number(line, 1);
@@ -161,17 +161,16 @@ fn define(
 // Deletes, with `rows` as the room for orders.
 fn delete_by(
     head: &mut [u64],
-    groups: &mut [[u64; 36]],
-    pairs: &mut [[u64; 4]],
+    groups: &mut [[u64; GROUP_WORDS]],
+    pairs: &mut [[u64; PAIR_WORDS]],
     asker: Itsi,
     named: Numbers,
     remove: bool,
     deassign: bool,
     radios: Listed,
-    rows: &mut [[u64; 3]],
+    rows: &mut [[u64; ORDER_WORDS]],
     out: &mut [u8],
 ) -> usize
-    requires { ⌜ longest ≤ length (now out) ⌝ }
     ensures { λ r. ⌜ r ≤ longest ⌝ }
 {
     let sent = ledger::delete(
@@ -192,11 +191,10 @@ fn delete_by(
 fn delete(
     line: &[u8],
     head: &mut [u64],
-    groups: &mut [[u64; 36]],
-    pairs: &mut [[u64; 4]],
+    groups: &mut [[u64; GROUP_WORDS]],
+    pairs: &mut [[u64; PAIR_WORDS]],
     out: &mut [u8],
 ) -> usize
-    requires { ⌜ longest ≤ length (now out) ⌝ }
     ensures { λ r. ⌜ r ≤ longest ⌝ }
 {
     let asker = number(line, 1);
@@ -229,11 +227,10 @@ fn delete(
 fn answer(
     line: &[u8],
     head: &mut [u64],
-    groups: &[[u64; 36]],
-    pairs: &mut [[u64; 4]],
+    groups: &[[u64; GROUP_WORDS]],
+    pairs: &mut [[u64; PAIR_WORDS]],
     out: &mut [u8],
 ) -> usize
-    requires { ⌜ longest ≤ length (now out) ⌝ }
     ensures { λ r. ⌜ r ≤ longest ⌝ }
 {
     let radio = number(line, 1);
@@ -254,7 +251,12 @@ fn answer(
 }
 
 // So many ticks; a refusal ends them.
-fn tick_on(count: u64, head: &[u64], groups: &[[u64; 36]], pairs: &mut [[u64; 4]]) -> Reply {
+fn tick_on(
+    count: u64,
+    head: &[u64],
+    groups: &[[u64; GROUP_WORDS]],
+    pairs: &mut [[u64; PAIR_WORDS]],
+) -> Reply {
     let mut left = count;
     while 0 < left {
         left -= 1;
@@ -270,11 +272,10 @@ fn tick_on(count: u64, head: &[u64], groups: &[[u64; 36]], pairs: &mut [[u64; 4]
 fn wait(
     line: &[u8],
     head: &[u64],
-    groups: &[[u64; 36]],
-    pairs: &mut [[u64; 4]],
+    groups: &[[u64; GROUP_WORDS]],
+    pairs: &mut [[u64; PAIR_WORDS]],
     out: &mut [u8],
 ) -> usize
-    requires { ⌜ longest ≤ length (now out) ⌝ }
     ensures { λ r. ⌜ r ≤ longest ⌝ }
 {
     let count = word(line, 1, 4);
@@ -287,14 +288,13 @@ fn wait(
 // Lists, with `rows` as the room for radios.
 fn list_by(
     head: &[u64],
-    groups: &[[u64; 36]],
-    pairs: &[[u64; 4]],
+    groups: &[[u64; GROUP_WORDS]],
+    pairs: &[[u64; PAIR_WORDS]],
     asker: Itsi,
     group: Gtsi,
-    rows: &mut [[u64; 2]],
+    rows: &mut [[u64; ENTRY_WORDS]],
     out: &mut [u8],
 ) -> usize
-    requires { ⌜ longest ≤ length (now out) ⌝ }
     ensures { λ r. ⌜ r ≤ longest ⌝ }
 {
     let members = ledger::list(head, groups, pairs, asker, group, rows);
@@ -305,11 +305,10 @@ fn list_by(
 fn list(
     line: &[u8],
     head: &[u64],
-    groups: &[[u64; 36]],
-    pairs: &[[u64; 4]],
+    groups: &[[u64; GROUP_WORDS]],
+    pairs: &[[u64; PAIR_WORDS]],
     out: &mut [u8],
 ) -> usize
-    requires { ⌜ longest ≤ length (now out) ⌝ }
     ensures { λ r. ⌜ r ≤ longest ⌝ }
 {
     let asker = number(line, 1);
@@ -335,11 +334,10 @@ fn list(
 fn show(
     line: &[u8],
     head: &[u64],
-    groups: &[[u64; 36]],
-    pairs: &[[u64; 4]],
+    groups: &[[u64; GROUP_WORDS]],
+    pairs: &[[u64; PAIR_WORDS]],
     out: &mut [u8],
 ) -> usize
-    requires { ⌜ longest ≤ length (now out) ⌝ }
     ensures { λ r. ⌜ r ≤ longest ⌝ }
 {
     let asker = number(line, 1);
@@ -360,11 +358,10 @@ fn letter(line: &[u8]) -> u8 {
 fn carry_out(
     line: &[u8],
     head: &mut [u64],
-    groups: &mut [[u64; 36]],
-    pairs: &mut [[u64; 4]],
+    groups: &mut [[u64; GROUP_WORDS]],
+    pairs: &mut [[u64; PAIR_WORDS]],
     out: &mut [u8],
 ) -> usize
-    requires { ⌜ longest ≤ length (now out) ⌝ }
     ensures { λ r. ⌜ r ≤ longest ⌝ }
 {
     let first = letter(line);
@@ -384,13 +381,14 @@ fn carry_out(
 pub fn reply_to(
     line: &[u8],
     head: &mut [u64],
-    groups: &mut [[u64; 36]],
-    pairs: &mut [[u64; 4]],
+    groups: &mut [[u64; GROUP_WORDS]],
+    pairs: &mut [[u64; PAIR_WORDS]],
     out: &mut [u8],
 ) -> usize
     requires { ⌜ longest + 1 ≤ length (now out) ⌝ }
     ensures { λ r. ⌜ r ≤ longest + 1 ⌝ }
 {
     let count = carry_out(line, head, groups, pairs, out);
-    put_byte(b'\n', out, count)
+    out[count] = b'\n';
+    count + 1
 }

@@ -3,6 +3,7 @@ use mathlib.Core.Path.{sym}
 use native.Mathlib.Omega.{arith}
 use lib.Seq.{length-take-le}
 use borrow.Author.Needs.{needs}
+use Rattle.words.proofs.Nowhere.{room-most}
 use Rattle.desk.proofs.orders.define.Statement.{statement}
 use Rattle.desk.proofs.orders.define.Tie as tie
 
@@ -37,10 +38,14 @@ part-define-by-end : tie.Need-part-define-by-end
 part-define-by-end c = search needs
 
 array-borrow-prefix-rows : tie.Need-array-borrow-prefix-rows
-array-borrow-prefix-rows c = search needs
+array-borrow-prefix-rows c =
+    let room = c .before .before .before .before .before .before .before .room in
+    omega (arith, room-most _ _ (room .result) (room .ensures))
 
 slice-aggregate-define-by : tie.Need-slice-aggregate-define-by
-slice-aggregate-define-by c = sym (length-take-le _ _ (omega arith))
+slice-aggregate-define-by c =
+    let room = c .before .before .before .before .before .before .before .before .room in
+    sym (length-take-le _ _ (omega (arith, room-most _ _ (room .result) (room .ensures), c .before .before .before .before .before .order-places .ensures)))
 
 define-by-requires : tie.Need-define-by-requires
 define-by-requires c κs = search needs

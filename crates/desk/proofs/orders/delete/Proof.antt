@@ -3,6 +3,7 @@ use mathlib.Core.Path.{sym}
 use native.Mathlib.Omega.{arith}
 use lib.Seq.{length-take-le}
 use borrow.Author.Needs.{needs}
+use Rattle.words.proofs.Nowhere.{room-most}
 use Rattle.desk.proofs.orders.delete.Statement.{statement}
 use Rattle.desk.proofs.orders.delete.Tie as tie
 
@@ -37,10 +38,14 @@ order-places-requires : tie.Need-order-places-requires
 order-places-requires c κs = search needs
 
 array-borrow-prefix-rows : tie.Need-array-borrow-prefix-rows
-array-borrow-prefix-rows c = search needs
+array-borrow-prefix-rows c =
+    let room = c .before .before .before .before .before .before .before .before .before .before .before .before .before .room in
+    omega (arith, room-most _ _ (room .result) (room .ensures))
 
 slice-aggregate-delete-by : tie.Need-slice-aggregate-delete-by
-slice-aggregate-delete-by c = sym (length-take-le _ _ (omega (arith, c .before .before .before .before .before .before .before .before .before .before .before .before .before .before .room .ensures, c .before .before .before .before .before .before .order-places .ensures)))
+slice-aggregate-delete-by c =
+    let room = c .before .before .before .before .before .before .before .before .before .before .before .before .before .before .room in
+    sym (length-take-le _ _ (omega (arith, room-most _ _ (room .result) (room .ensures), c .before .before .before .before .before .before .order-places .ensures)))
 
 delete-by-requires : tie.Need-delete-by-requires
 delete-by-requires c κs = c .before .before .before .before .before .before .before .before .before .before .before .before .before .before .before .before .before .before .before .before .pre

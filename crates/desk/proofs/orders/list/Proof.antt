@@ -3,6 +3,7 @@ use mathlib.Core.Path.{sym}
 use native.Mathlib.Omega.{arith}
 use lib.Seq.{length-take-le}
 use borrow.Author.Needs.{needs}
+use Rattle.words.proofs.Nowhere.{room-most}
 use Rattle.desk.proofs.orders.list.Statement.{statement}
 use Rattle.desk.proofs.orders.list.Tie as tie
 
@@ -28,10 +29,14 @@ radio-places-requires : tie.Need-radio-places-requires
 radio-places-requires c κs = search needs
 
 array-borrow-prefix-rows : tie.Need-array-borrow-prefix-rows
-array-borrow-prefix-rows c = search needs
+array-borrow-prefix-rows c =
+    let room = c .before .before .before .room in
+    omega (arith, room-most _ _ (room .result) (room .ensures))
 
 slice-aggregate-list-by : tie.Need-slice-aggregate-list-by
-slice-aggregate-list-by c = sym (length-take-le _ _ (omega arith))
+slice-aggregate-list-by c =
+    let room = c .before .before .before .before .room in
+    sym (length-take-le _ _ (omega (arith, room-most _ _ (room .result) (room .ensures), c .before .radio-places .ensures)))
 
 list-by-requires : tie.Need-list-by-requires
 list-by-requires c κs = search needs

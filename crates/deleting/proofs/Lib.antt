@@ -1,0 +1,4 @@
+-- Laws of a delete.
+pub mod LeavingLaws
+pub mod Deletes
+pub mod Unique

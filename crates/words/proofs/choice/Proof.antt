@@ -1,0 +1,30 @@
+-- `words::choice` meets its contract.
+use Rattle.words.specs.Words.{choiceAt}
+use borrow.Author.Needs.{needs}
+use Rattle.words.proofs.choice.Statement.{statement}
+use Rattle.words.proofs.choice.Tie as tie
+
+mark-requires : tie.Need-mark-requires
+mark-requires c κs = search needs
+
+stands-requires : tie.Need-stands-requires
+stands-requires c κs = search needs
+
+mark-requires-2 : tie.Need-mark-requires-2
+mark-requires-2 c κs = search needs
+
+returns : tie.Need-returns
+unfolding choiceAt
+returns c = rw (← c .before .before .before .mark .ensures, ← c .before .before .stands .ensures, c .before .if1 .taken, c .mark2 .ensures)
+
+mark-requires-3 : tie.Need-mark-requires-3
+mark-requires-3 c κs = search needs
+
+returns-2 : tie.Need-returns-2
+unfolding choiceAt
+returns-2 c = rw (← c .before .before .before .mark .ensures, ← c .before .before .stands .ensures, c .before .if1 .left, c .mark3 .ensures)
+
+pub choice-spec : {M : Type 1} → statement M
+choice-spec =
+    tie.close
+    (tie.spec mark-requires stands-requires mark-requires-2 returns mark-requires-3 returns-2)
