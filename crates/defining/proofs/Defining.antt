@@ -1,166 +1,191 @@
--- Laws of a define: its tests are the law's, what it asks of the lent rows holds, and its walks leave what the law leaves.
+-- Laws of a define: its tests are the law's, and its walks leave and send what the law says.
 use mathlib.Core.Path.{_≡_, refl, sym, ap, _∙_}
-use mathlib.Core.Bool.{Bool, true, false, not, _&&_, _||_}
-use mathlib.Core.List.{List, [], _∷_, _++_, map}
+use mathlib.Core.Bool.{Bool, true, false, cond, not, _||_}
+use mathlib.Core.List.{List, [], _∷_, _++_}
 use mathlib.Core.Option.{Option, none, some}
 use Prim.Native.Nat.{ℕ, _≤_}
-use lib.Dec.{eqb, leb, ltb}
+use native.Mathlib.Omega.{arith}
+use lib.Dec.{eqb, ltb}
 use lib.ListN.{length, set}
-use borrow.Author.Tests.{ltb-false, leb-true, not-true}
+use borrow.Author.Tests.{ltb-false}
 use Rattle.refusal.specs.declared.Refusal.{Refusal}
 use Rattle.refusal.specs.declared.Refusal.the-variants.{BadOrder, FormNotTaken, NotOwner, Full, NoRoom}
-use Rattle.rules.specs.Lists.{all, any, unique}
-use Rattle.rules.specs.Entries.{distinct, find}
+use Rattle.layout.specs.Frame.{places}
+use Rattle.rules.specs.Lists.{any, present, once}
+use Rattle.rules.specs.Entries.{find}
 use Rattle.rules.specs.Arrival.{put}
-use Rattle.rules.specs.Mark.{Mark, begun}
-use Rattle.rules.specs.Number.{numbersIn, wide, badList, untaken}
-use Rattle.rules.specs.Parameters.{Parameters, tooLarge, badName, badParameters}
+use Rattle.rules.specs.Number.{Numbers, key, numbersIn, wide, badList, untaken}
+use Rattle.rules.specs.Mark.{begun}
+use Rattle.rules.specs.Parameters.{badName, badParameters}
+use Rattle.rules.specs.Order.{Define, define, defineGroups, defineRadios}
 use Rattle.rules.specs.Effect.{Effect, effect}
-use Rattle.rules.specs.Order.{defineGroups, defineRadios}
-use Rattle.rules.specs.Outgoing.{outgoing}
-use Rattle.rules.specs.Recorded.{saysYes, optionalYes, optional, optionalName, parametersIn, numbersAt, callRelated, ownersIncluded, ownerNumbers, acknowledgementRequested, defineOf}
+use Rattle.rules.specs.Outgoing.{assign}
+use Rattle.rules.specs.Recorded.{saysYes, optional, optionalName, parametersIn, callRelated, acknowledgementRequested, defineOf}
 use Rattle.rules.specs.Refusals.{first, tests, refuses, maxGroups, maxPairs}
-use Rattle.rules.specs.Ledger.{Group, Pair, samePair, Ledger, view, tally, apply, refused, groupAfter}
-use Rattle.rules.specs.Written.{maxOwners, goodOwners, goodGroup, goodPair}
-use Rattle.rules.proofs.Tests.{and-l, and-r, or-l, or-r}
-use Rattle.rules.proofs.Walks.{putsNow, length-orders}
+use Rattle.rules.specs.Ledger.{Group, Ledger, view}
+use Rattle.rules.specs.Steps.{given, groupAfter, tally, apply, refused}
+use Rattle.rules.proofs.Tests.{or-l, or-r}
+use Rattle.rules.proofs.Walks.{length-orders}
+use Rattle.rules.proofs.Ranges.{in-range}
+use Rattle.rules.proofs.Puts.{putsNow}
+use Rattle.rules.proofs.Arrival.{by-arrival}
+use Rattle.rules.proofs.Effects.{Standing}
+use Rattle.rules.proofs.Written.{written-form}
 use Rattle.rules.proofs.Sound.{bad-order}
 use Rattle.rules.proofs.Steps.{define-lists, define-groups-total, define-pairs-total}
-use Rattle.store.specs.Lists.{onto}
-use Rattle.store.specs.Storage.{Contents, contents, groupRow, pairRow, ledgerOf, laid}
-use Rattle.store.specs.Form.{Sound}
-use Rattle.order.specs.Lists.{listOf}
-use Rattle.store.specs.Named.{groupFault}
-use Rattle.replies.specs.Orders.{replyOf, verdict}
+use Rattle.order.specs.Keys.{ownersAs, ownersHeld}
+use Rattle.order.specs.Lists.{numbersOf, listOf}
+use Rattle.order.specs.Recorded.{groupList, ownerList, radioList}
+use Rattle.order.specs.Row.{orderRowOf}
 use Rattle.order.specs.Steps.{defineStep}
-use Rattle.defining.specs.Tests.{defineForm, defineStand}
-use Rattle.rules.specs.Ledger.{groupAfter}
-use Rattle.defining.specs.Groups.{makeGroups, Fine, FineGroups}
--- GONE defined, groupsMade, pairsSet, ordersSent
-use Rattle.order.specs.Recorded.{groupsListed, ownersListed, radiosListed}
 use Rattle.order.specs.declared.Itsi.{Itsi}
-use Rattle.order.specs.declared.Listed.{Listed}
+use Rattle.order.specs.declared.Owners.{Owners}
+use Rattle.order.specs.declared.RadioKey.{RadioKey}
+use Rattle.order.proofs.KeyLaws.{owners-held}
+use Rattle.order.proofs.Recorded.{lists-said, owners-said, radios-said}
+use Rattle.store.specs.Lists.{onto, Fills}
+use Rattle.store.specs.Storage.{Rows, Contents, contents, placing, groupOf, groupRow, pairRow, ledgerOf, laid}
+use Rattle.store.specs.Form.{Sound}
+use Rattle.store.specs.Named.{groupFault}
 use Rattle.store.specs.declared.Standing.the-variants.{Taken}
-use Rattle.replies.specs.declared.Reply.the-variants.{Done, Refused}
 use Rattle.store.proofs.FormLaws.{law-form}
-use Rattle.asking.proofs.Listing.{first-none, first-some, reply-none, reply-some}
-use Rattle.replies.proofs.Orders.{tests-pass}
-use Rattle.deleting.proofs.Deletes.{given-present, set-both}
-use Rattle.defining.proofs.Defines.{set-product}
+use Rattle.replies.specs.Orders.{replyOf, verdict}
+use Rattle.replies.specs.declared.Reply.the-variants.{Done, Refused}
+use Rattle.replies.proofs.Orders.{first-none, first-some, reply-none, reply-some, tests-pass}
+use Rattle.defining.specs.Groups.{makeGroups}
+use Rattle.defining.specs.Pairs.{setAll}
+use Rattle.defining.specs.Sent.{assignOrders}
+use Rattle.defining.specs.Tests.{defineForm, defineStand}
+use Rattle.defining.proofs.SetPairs.{set-product}
+use Rattle.defining.proofs.OrderRows.{order-group}
 
--- ---- what stands has its room ----
-
-pub good-name : (p : Parameters) → badParameters p ≡ false → badName (p .name) ≡ false
-good-name p e =
-    let rest = badName (p .name) || (tooLarge 8 (p .class) || (tooLarge 4 (p .lifetime) || (tooLarge 8 (p .temporary) || false))) in
-    let e₁ = or-r (tooLarge 8 (p .setReference)) (tooLarge 2 (p .acknowledgedCall) || (tooLarge 2 (p .broadcast) || rest)) e in
-    let e₂ = or-r (tooLarge 2 (p .acknowledgedCall)) (tooLarge 2 (p .broadcast) || rest) e₁ in
-    or-l (badName (p .name)) (tooLarge 8 (p .class) || (tooLarge 4 (p .lifetime) || (tooLarge 8 (p .temporary) || false))) (or-r (tooLarge 2 (p .broadcast)) rest e₂)
-
-fine-good : (e : ℕ × Group) → goodGroup e ≡ true → Fine (e .1)
-fine-good e h =
-    let bad = badParameters (e .1 .parameters) in
-    let h₁ = and-r (not (wide (e .0))) (goodOwners (e .1 .owners) && not bad) h in
-    let n = length (e .1 .owners) in
-    let rest = unique (e .1 .owners) && all (λ a. not (wide a)) (e .1 .owners) in
-    let h₂ = and-r (ltb 0 n) (leb n maxOwners && rest) (and-l (goodOwners (e .1 .owners)) (not bad) h₁) in
-    (good-name (e .1 .parameters) (not-true bad (and-r (goodOwners (e .1 .owners)) (not bad) h₁)), leb-true n maxOwners (and-l (leb n maxOwners) rest h₂))
-
-pub fine-all : (l : List (ℕ × Group)) → all goodGroup l ≡ true → FineGroups l
-fine-all [] h = tt
-fine-all (e ∷ l) h = (fine-good e (and-l (goodGroup e) (all goodGroup l) h), fine-all l (and-r (goodGroup e) (all goodGroup l) h))
-
-pub fine-groups : (c : Contents) → Sound c → FineGroups (ledgerOf c .groups)
-fine-groups c w =
-    let l = ledgerOf c in
-    let good = all goodGroup (l .groups) && all (goodPair l) (l .pairs) in
-    let h₁ = and-r (leb (length (l .groups)) maxGroups) (leb (length (l .pairs)) maxPairs && (distinct eqb (l .groups) && (distinct samePair (l .pairs) && good))) (law-form c w) in
-    let h₂ = and-r (leb (length (l .pairs)) maxPairs) (distinct eqb (l .groups) && (distinct samePair (l .pairs) && good)) h₁ in
-    let h₃ = and-r (distinct samePair (l .pairs)) good (and-r (distinct eqb (l .groups)) (distinct samePair (l .pairs) && good) h₂) in
-    fine-all (l .groups) (and-l (all goodGroup (l .groups)) (all (goodPair l) (l .pairs)) h₃)
+standing : (c : Contents) → Sound c → Standing placing (ledgerOf c)
+standing c w = written-form placing (ledgerOf c) (law-form c w) .standing
 
 -- ---- its tests are those of form, then those of what stands ----
 
-module _ (c : Contents) (w : Sound c) (asker : Itsi) (places : List ℕ) (room : ℕ) (whole : length places ≡ 166) (groups owners radios : Listed)
-    (ge : listOf groups ≡ groupsListed places) (oe : listOf owners ≡ ownersListed places) (re : listOf radios ≡ radiosListed places) where
-  define-tests : tests (view (ledgerOf c)) (tally (ledgerOf c) (effect (defineStep asker places room))) (defineStep asker places room) ≡ defineForm asker places groups owners radios ++ defineStand (ledgerOf c .groups) (ledgerOf c .pairs) asker (numbersIn (listOf groups)) (numbersIn (listOf radios)) room
+module _ (c : Contents) (w : Sound c) (asker : Itsi) (k : RadioKey) (same : k .0 ≡ key (asker .0)) (values : List ℕ) (room : ℕ)
+    (whole : length values ≡ places) where
+  abbrev form : List (Refusal × Bool)
+  form = defineForm asker values
+
+  abbrev stand : List (Refusal × Bool)
+  stand = defineStand (ledgerOf c .groups) (ledgerOf c .pairs) k (numbersIn (listOf (groupList values))) (numbersIn (listOf (radioList values))) room
+
+  define-tests : tests (view (ledgerOf c)) (tally placing (ledgerOf c) (effect (view (ledgerOf c)) (defineStep asker values room))) (defineStep asker values room)
+      ≡ form ++ stand
   unfolding defineOf
   define-tests =
       let l = ledgerOf c in
-      let o = defineOf (asker .0) places in
-      rw (ge, oe, re) (λ i.
-      (BadOrder, bad-order (asker .0) places whole i)
-      ∷ (FormNotTaken, saysYes places callRelated || (untaken (groupsListed places) || (untaken (ownersListed places) || untaken (radiosListed places))))
-      ∷ (NotOwner, any (λ g. groupFault Taken (find eqb (l .groups) g) (asker .0)) (defineGroups o))
-      ∷ (Full, ltb maxGroups (define-groups-total l o room i) || ltb maxPairs (define-pairs-total l o room i))
-      ∷ (NoRoom, ltb room (length-orders 0 (defineGroups o) (defineRadios o) i))
+      let o = defineOf (asker .0) values in
+      let gs = sym (lists-said (asker .0) values) in
+      let os = sym (owners-said (asker .0) values) in
+      let rs = sym (radios-said (asker .0) values) in
+      let n = define-groups-total placing by-arrival l (standing c w) o room in
+      let m = define-pairs-total placing by-arrival l (standing c w) o room in
+      (λ i.
+      (BadOrder, bad-order (asker .0) values whole i)
+      ∷ (FormNotTaken, saysYes values callRelated || (untaken (gs i) || (untaken (os i) || untaken (rs i))))
+      ∷ (NotOwner, any (λ g. groupFault Taken (find eqb (l .groups) g) (sym same i)) (defineGroups o))
+      ∷ (Full, ltb maxGroups (n i) || ltb maxPairs (m i))
+      ∷ (NoRoom, ltb room (length-orders assign (defineGroups o) (defineRadios o) i))
       ∷ [])
+      ∙ (λ i. form ++ defineStand (l .groups) (l .pairs) k (numbersIn (gs i)) (numbersIn (rs i)) room)
 
-  pub define-form-refused : (r : Refusal) → Refused r ≡ replyOf (first (defineForm asker places groups owners radios)) → Refused r ≡ replyOf (verdict c (defineStep asker places room))
-  define-form-refused r e = rw (w .form) (ap replyOf (sym (ap first define-tests ∙ first-some (defineForm asker places groups owners radios) (defineStand (ledgerOf c .groups) (ledgerOf c .pairs) asker (numbersIn (listOf groups)) (numbersIn (listOf radios)) room) r (reply-some (first (defineForm asker places groups owners radios)) r e))))
+  pub form-refused : (r : Refusal) → Refused r ≡ replyOf (first form) → Refused r ≡ replyOf (verdict c (defineStep asker values room))
+  form-refused r e = rw (w .form) (ap replyOf (sym (ap first define-tests ∙ first-some form stand r (reply-some (first form) r e))))
 
-  pub define-stand-replies : Done ≡ replyOf (first (defineForm asker places groups owners radios)) → replyOf (first (defineStand (ledgerOf c .groups) (ledgerOf c .pairs) asker (numbersIn (listOf groups)) (numbersIn (listOf radios)) room)) ≡ replyOf (verdict c (defineStep asker places room))
-  define-stand-replies e = rw (w .form) (ap replyOf (sym (ap first define-tests ∙ first-none (defineForm asker places groups owners radios) (defineStand (ledgerOf c .groups) (ledgerOf c .pairs) asker (numbersIn (listOf groups)) (numbersIn (listOf radios)) room) (reply-none (first (defineForm asker places groups owners radios)) e))))
+  pub stand-replies : Done ≡ replyOf (first form) → replyOf (first stand) ≡ replyOf (verdict c (defineStep asker values room))
+  stand-replies e = rw (w .form) (ap replyOf (sym (ap first define-tests ∙ first-none form stand (reply-none (first form) e))))
 
--- ---- what goes out ----
+-- ---- the lists that are read are those of the order ----
 
-pub define-sends : (c : Contents) (asker : Itsi) (places : List ℕ) (room : ℕ) → outgoing (view (ledgerOf c)) (tally (ledgerOf c) (effect (defineStep asker places room))) (defineStep asker places room) ≡ ordersSent places
-unfolding defineOf
-define-sends c asker places room = refl
+given-present : {A : Type 0} (b : Bool) (x : A) → present (cond b (some x) none) ≡ b
+given-present true x = refl
+given-present false x = refl
+
+module _ (asker : Itsi) (values : List ℕ) (l : Ledger) (room : ℕ) where
+  pub keeps-said : not (ownerList values .given) ≡ effect (view l) (defineStep asker values room) .keeps
+  keeps-said =
+      ap not (sym (given-present (ownerList values .given) (numbersOf (ownerList values .numbers))))
+      ∙ ap (λ (o : Option Numbers). not (present o)) (owners-said (asker .0) values)
+
+  pub group-said : (owners : Owners) → owners ≡ ownersAs (once (key (asker .0) ∷ numbersIn (listOf (ownerList values))))
+      → length (ownersHeld owners) ≤ 11 → badName (optionalName values) ≡ false
+      → groupOf (orderRowOf values (ownersHeld owners)) .1 ≡ given (effect (view l) (defineStep asker values room))
+  unfolding defineOf
+  group-said owners e few good =
+      let held = ap ownersHeld e ∙ owners-held (once (key (asker .0) ∷ numbersIn (listOf (ownerList values))))
+      ∙ ap (λ (o : Option Numbers). once (key (asker .0) ∷ numbersIn o)) (owners-said (asker .0) values) in
+      ap (λ (x : ℕ × Group). x .1) (order-group values (ownersHeld owners) few good)
+      ∙ ap (λ (os : List ℕ). record { owners = os; parameters = parametersIn values }) held
+
+  pub state-said : begun (optional values acknowledgementRequested) .state ≡ effect (view l) (defineStep asker values room) .begins .state
+  unfolding defineOf
+  state-said = refl
 
 -- ---- what is left ----
 
-group-after : (e : Effect) (x : Option Group) → groupAfter (e .keeps) (record { owners = e .owners; parameters = e .parameters }) x ≡ groupAfter e x
-group-after e none = refl
-group-after e (some x) = refl
+groups-put : (keeps : Bool) (new : Group) (gs : List ℕ) (l : List (ℕ × Group))
+    → makeGroups keeps new gs l ≡ putsNow (placing .groups) eqb l gs (groupAfter keeps new)
+groups-put keeps new [] l = refl
+groups-put keeps new (g ∷ gs) l = groups-put keeps new gs (put eqb l g (groupAfter keeps new (find eqb l g)))
 
-groups-put : (e : Effect) (gs : List ℕ) (l : List (ℕ × Group)) → makeGroups (e .keeps) (record { owners = e .owners; parameters = e .parameters }) gs l ≡ putsNow eqb l gs (groupAfter e)
-groups-put e [] l = refl
-groups-put e (g ∷ gs) l = groups-put e gs (put eqb l g (groupAfter (e .keeps) (record { owners = e .owners; parameters = e .parameters }) (find eqb l g))) ∙ ap (λ (x : Group). putsNow eqb (put eqb l g x) gs (groupAfter e)) (group-after e (find eqb l g))
+module _ (c : Contents) (w : Sound c) (o : Define) (room : ℕ) where
+  abbrev pub does : Effect
+  does = effect (view (ledgerOf c)) (define o room)
 
-module _ (l : Ledger) (asker : Itsi) (places : List ℕ) (room : ℕ) where
-  pub made-groups : groupsMade (asker .0) places (l .groups) ≡ apply l (effect (defineStep asker places room)) .groups
-  unfolding defineOf
+  abbrev pub left : Ledger
+  left = apply placing (ledgerOf c) (effect (view (ledgerOf c)) (define o room))
+
+  pub made-groups : makeGroups (does .keeps) (given does) (defineGroups o) (ledgerOf c .groups) ≡ left .groups
   made-groups =
-      ap (λ (b : Bool). makeGroups (not b) (defined (asker .0) places) (numbersIn (groupsListed places)) (l .groups)) (sym (given-present (optionalYes places ownersIncluded) (numbersAt places ownerNumbers)))
-      ∙ groups-put (effect (defineStep asker places room)) (numbersIn (groupsListed places)) (l .groups)
-      ∙ sym (ap (λ (a : Ledger). a .groups) (define-lists l (defineOf (asker .0) places) room))
+      groups-put (does .keeps) (given does) (defineGroups o) (ledgerOf c .groups)
+      ∙ sym (ap (λ (a : Ledger). a .groups) (define-lists placing by-arrival (ledgerOf c) (standing c w) o room))
 
-  pub set-pairs : pairsSet places (l .pairs) ≡ apply l (effect (defineStep asker places room)) .pairs
-  unfolding defineOf
+  pub set-pairs : setAll (does .begins .state) (defineRadios o) (defineGroups o) (ledgerOf c .pairs) ≡ left .pairs
   set-pairs =
-      set-product (begun (optional places acknowledgementRequested) .state) (numbersIn (radiosListed places)) (numbersIn (groupsListed places)) (l .pairs)
-      ∙ sym (ap (λ (a : Ledger). a .pairs) (define-lists l (defineOf (asker .0) places) room))
+      set-product (does .begins .state) (defineRadios o) (defineGroups o) (ledgerOf c .pairs)
+      ∙ sym (ap (λ (a : Ledger). a .pairs) (define-lists placing by-arrival (ledgerOf c) (standing c w) o room))
 
-pub defined-laid : (c : Contents) → Sound c → (asker : Itsi) (places : List ℕ) (room n m : ℕ) (grows prows : List (List ℕ))
-    → n ≡ length (groupsMade (asker .0) places (ledgerOf c .groups)) → grows ≡ onto (map groupRow (groupsMade (asker .0) places (ledgerOf c .groups))) (c .groups)
-    → m ≡ length (pairsSet places (ledgerOf c .pairs)) → prows ≡ onto (map pairRow (pairsSet places (ledgerOf c .pairs))) (c .pairs)
-    → contents (set (set (c .head) 0 n) 1 m) grows prows ≡ laid (apply (ledgerOf c) (effect (defineStep asker places room))) c
-defined-laid c w asker places room n m grows prows ne ge me pe =
-    let g = made-groups (ledgerOf c) asker places room in
-    let p = set-pairs (ledgerOf c) asker places room in
-    let hn = ne ∙ ap length g in
-    let hm = me ∙ ap length p in
-    let hg = ge ∙ ap (λ (z : List (ℕ × Group)). onto (map groupRow z) (c .groups)) g in
-    let hp = pe ∙ ap (λ (z : List (Pair × Mark)). onto (map pairRow z) (c .pairs)) p in
-    let hd = set-both (c .head) n m (w .head) ∙ (λ i. onto (hn i ∷ hm i ∷ []) (c .head)) in
-    λ i. contents (hd i) (hg i) (hp i)
+set-both : (head : List ℕ) (n m : ℕ) → 2 ≤ length head → set (set head 0 n) 1 m ≡ onto (n ∷ m ∷ []) head
+set-both [] n m h = absurd (omega arith)
+set-both (a ∷ []) n m h = absurd (omega arith)
+set-both (a ∷ b ∷ l) n m h = refl
 
--- a define that is taken has room for what it makes and sends, and names that fit
-pub define-passed : (c : Contents) (asker : Itsi) (places : List ℕ) (room : ℕ) → refused (ledgerOf c) (defineStep asker places room) ≡ none → (length (groupsMade (asker .0) places (ledgerOf c .groups)) ≤ 320) × (length (pairsSet places (ledgerOf c .pairs)) ≤ 2048) × (length (ordersSent places) ≤ room) × (badName (optionalName places) ≡ false)
+pub all-laid : (c : Contents) → Sound c → (l : Ledger) (n m : ℕ) (groups pairs : Rows)
+    → Fills groupRow (l .groups) (c .groups) groups n → Fills pairRow (l .pairs) (c .pairs) pairs m
+    → contents (set (set (c .head) 0 n) 1 m) groups pairs ≡ laid l c
+all-laid c w l n m groups pairs g p =
+    let h = set-both (c .head) n m (w .head) ∙ (λ i. onto (g .counts i ∷ p .counts i ∷ []) (c .head)) in
+    λ i. contents (h i) (g .rows i) (p .rows i)
+
+-- a define that is taken has room for what it makes and sends, and a name that fits
+pub record Passed (values : List ℕ) (left : Ledger) (radios groups : List ℕ) (room : ℕ) : Type 0 where
+  pub few-groups : length (left .groups) ≤ maxGroups
+  pub few-pairs : length (left .pairs) ≤ maxPairs
+  pub sends : length (assignOrders radios groups) ≤ room
+  pub name : badName (optionalName values) ≡ false
+
+pub define-passed : (l : Ledger) (asker : Itsi) (values : List ℕ) (room : ℕ) → refused placing l (defineStep asker values room) ≡ none
+    → let o = defineOf (asker .0) values in
+    Passed values (apply placing l (effect (view l) (defineStep asker values room))) (defineRadios o) (defineGroups o) room
 unfolding defineOf parametersIn
-define-passed c asker places room e =
-    let o = defineOf (asker .0) places in
-    let l = ledgerOf c in
-    let t = tests (view l) (tally l (effect (defineStep asker places room))) (defineStep asker places room) in
-    let a = apply l (effect (defineStep asker places room)) in
+define-passed l asker values room e =
+    let o = defineOf (asker .0) values in
+    let s = defineStep asker values room in
+    let t = tests (view l) (tally placing l (effect (view l) s)) s in
+    let a = apply placing l (effect (view l) s) in
+    let manyGroups = ltb maxGroups (length (a .groups)) in
+    let manyPairs = ltb maxPairs (length (a .pairs)) in
     let full = tests-pass t e 3 in
     let lists = badList (o .groups) || (badList (o .owners) || (badList (o .radios) || badParameters (o .parameters))) in
     let b₁ = or-r (refuses (o .judged)) lists (or-r (wide (asker .0)) (refuses (o .judged) || lists) (tests-pass t e 0)) in
     let b₂ = or-r (badList (o .groups)) (badList (o .owners) || (badList (o .radios) || badParameters (o .parameters))) b₁ in
-    let b₃ = or-r (badList (o .radios)) (badParameters (o .parameters)) (or-r (badList (o .owners)) (badList (o .radios) || badParameters (o .parameters)) b₂) in (
-      rw (made-groups l asker places room) (ltb-false maxGroups (length (a .groups)) (or-l (ltb maxGroups (length (a .groups))) (ltb maxPairs (length (a .pairs))) full)),
-      rw (set-pairs l asker places room) (ltb-false maxPairs (length (a .pairs)) (or-r (ltb maxGroups (length (a .groups))) (ltb maxPairs (length (a .pairs))) full)),
-      ltb-false room (length (ordersSent places)) (tests-pass t e 4),
-      good-name (parametersIn places) b₃,
-    )
+    let b₃ = or-r (badList (o .owners)) (badList (o .radios) || badParameters (o .parameters)) b₂ in
+    record {
+      few-groups = ltb-false maxGroups (length (a .groups)) (or-l manyGroups manyPairs full);
+      few-pairs = ltb-false maxPairs (length (a .pairs)) (or-r manyGroups manyPairs full);
+      sends = ltb-false room (length (assignOrders (defineRadios o) (defineGroups o))) (tests-pass t e 4);
+      name = in-range (parametersIn values) (or-r (badList (o .radios)) (badParameters (o .parameters)) b₃) .name;
+    }

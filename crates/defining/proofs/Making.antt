@@ -6,31 +6,34 @@ use mathlib.Core.Option.{Option, none, some}
 use Prim.Native.Nat.{ℕ, zero, suc, _+_, _-_, _≤_, _<_}
 use native.Mathlib.Omega.{arith}
 use lib.Dec.{eqb}
-use lib.ListN.{length, getD, set, take, drop, replicate, length-set, length-append, length-replicate}
+use lib.ListN.{length, getD, set, take, drop, replicate, length-append, length-replicate}
 use lib.Seq.{drop-cons, take-at, drop-at, take-length}
 use borrow.Author.Tests.{ne-eqb, eqb-true}
-use Rattle.rules.specs.Parameters.{noParameters, over, replaced, badName}
+use Rattle.rules.specs.Parameters.{noParameters, over, badName}
 use Rattle.rules.specs.Entries.{find}
 use Rattle.rules.specs.Arrival.{put}
 use Rattle.rules.proofs.ListLaws.{eqb-same}
-use Rattle.rules.proofs.Walks.{length-put}
+use Rattle.rules.proofs.Arrival.{length-put}
 use Rattle.rules.specs.Ledger.{Group}
-use Rattle.store.specs.Lists.{Plain, onto}
-use Rattle.store.specs.Storage.{groupOf, groupRow, groupsOf, counted}
+use Rattle.rules.specs.Steps.{groupAfter}
+use Rattle.rules.specs.Written.{maxOwners}
+use Rattle.rows.specs.Layout.{groupWords, maxLetters}
+use Rattle.store.specs.Lists.{Fills}
+use Rattle.store.specs.Storage.{Rows, groupOf, groupRow, groupsOf, counted}
 use Rattle.order.specs.Row.{heldOf, lettersOf, words}
+use Rattle.defining.specs.Takes.{Takes}
 use Rattle.defining.specs.Row.{madeRow}
-use Rattle.rules.specs.Ledger.{groupAfter}
-use Rattle.defining.specs.Groups.{makeGroup, Fine, FineGroups}
+use Rattle.defining.specs.Groups.{makeGroup, Fine, FineGroups, FineOrder}
 use Rattle.store.proofs.Groups.{name-few, group-back}
-use Rattle.store.proofs.Rows.{length-items}
 use Rattle.store.proofs.PlaceLaws.{Row, Missing}
-use Rattle.defining.proofs.Puts.{lay-set, lay-last}
+use Rattle.defining.proofs.Puts.{fills-at, fills-last, room-last}
 
 held-over : (new old : Option ℕ) → cond (eqb (heldOf new) 0) (heldOf old) (heldOf new) ≡ heldOf (over new old)
 held-over none old = refl
 held-over (some v) old = rw (ne-eqb (suc v) 0 (λ e. omega arith))
 
-letters-over : (o old : Option (List ℕ)) → badName o ≡ false → (b : Bool) → eqb (length (lettersOf o)) 0 ≡ b → lettersOf (over o old) ≡ cond b (lettersOf old) (lettersOf o)
+letters-over : (o old : Option (List ℕ)) → badName o ≡ false → (b : Bool) → eqb (length (lettersOf o)) 0 ≡ b
+    → lettersOf (over o old) ≡ cond b (lettersOf old) (lettersOf o)
 letters-over none old q true e = refl
 letters-over none old q false e = absurd (true≢false e)
 letters-over (some []) old q b e = absurd (true≢false q)
@@ -45,51 +48,65 @@ length-counted : (n : ℕ) (l : List ℕ) → length l ≤ n → length (counted
 length-counted n l h = omega (arith, length-append l (replicate (n - length l) 0), length-replicate {A = ℕ} (n - length l) 0)
 
 -- the words of a name and of the owners, in a group's row
-module _ (g : ℕ) (x : Group) (b : badName (x .parameters .name) ≡ false) (h : length (x .owners) ≤ 11) where
-  tail-long : length (counted 16 (lettersOf (x .parameters .name)) ++ counted 11 (x .owners)) ≡ 29
-  tail-long = length-append (counted 16 (lettersOf (x .parameters .name))) (counted 11 (x .owners)) ∙ omega (arith, length-counted 16 (lettersOf (x .parameters .name)) (name-few (x .parameters .name) b), length-counted 11 (x .owners) h)
+abbrev nameWords : Group → List ℕ
+nameWords x = counted maxLetters (lettersOf (x .parameters .name))
+
+abbrev ownerWords : Group → List ℕ
+ownerWords x = counted maxOwners (x .owners)
+
+module _ (g : ℕ) (x : Group) (f : Fine x) where
+  name-long : length (nameWords x) ≡ 17
+  name-long = length-counted 16 (lettersOf (x .parameters .name)) (name-few (x .parameters .name) (f .0))
+
+  owners-long : length (ownerWords x) ≡ 12
+  owners-long = length-counted 11 (x .owners) (f .1)
 
   row-long : length (groupRow (g, x)) ≡ 36
   unfolding groupRow
-  row-long = omega (arith, tail-long)
+  row-long = omega (arith, length-append (nameWords x) (ownerWords x), name-long, owners-long)
 
-  name-words : words (λ j. getD (groupRow (g, x)) j 0) 17 7 ≡ counted 16 (lettersOf (x .parameters .name))
+  name-words : words (λ j. getD (groupRow (g, x)) j 0) 17 7 ≡ nameWords x
   unfolding groupRow
-  name-words =
-      words-slice (groupRow (g, x)) 17 7 (omega (arith, row-long))
-      ∙ take-at (counted 16 (lettersOf (x .parameters .name))) (counted 11 (x .owners)) 17 (length-counted 16 (lettersOf (x .parameters .name)) (name-few (x .parameters .name) b))
+  name-words = words-slice (groupRow (g, x)) 17 7 (omega (arith, row-long)) ∙ take-at (nameWords x) (ownerWords x) 17 name-long
 
-  owner-words : words (λ j. getD (groupRow (g, x)) j 0) 12 24 ≡ counted 11 (x .owners)
+  owner-words : words (λ j. getD (groupRow (g, x)) j 0) 12 24 ≡ ownerWords x
   unfolding groupRow
   owner-words =
       words-slice (groupRow (g, x)) 12 24 (omega (arith, row-long))
-      ∙ ap (take 12) (drop-at (counted 16 (lettersOf (x .parameters .name))) (counted 11 (x .owners)) 17 (length-counted 16 (lettersOf (x .parameters .name)) (name-few (x .parameters .name) b)))
-      ∙ ap (λ (n : ℕ). take n (counted 11 (x .owners))) (sym (length-counted 11 (x .owners) h)) ∙ take-length (counted 11 (x .owners))
+      ∙ ap (take 12) (drop-at (nameWords x) (ownerWords x) 17 name-long)
+      ∙ ap (λ (n : ℕ). take n (ownerWords x)) (sym owners-long) ∙ take-length (ownerWords x)
 
 -- a row of zeros is that of a bare group
-blank-row : replicate 36 0 ≡ groupRow (0, record { owners = []; parameters = noParameters })
+blank-row : replicate groupWords 0 ≡ groupRow (0, record { owners = []; parameters = noParameters })
 unfolding groupRow
 blank-row = refl
 
-module _ (g n : ℕ) (keeps : Bool) (new old : Group) (bn : badName (new .parameters .name) ≡ false) (hn : length (new .owners) ≤ 11) (bo : badName (old .parameters .name) ≡ false) (ho : length (old .owners) ≤ 11) where
+module _ (g n : ℕ) (keeps : Bool) (new old : Group) (fn : Fine new) (fo : Fine old) where
+  abbrev oldWord : ℕ → ℕ
+  oldWord j = getD (groupRow (n, old)) j 0
+
+  abbrev newWord : ℕ → ℕ
+  newWord j = getD (groupRow (0, new)) j 0
+
   -- the name's words: kept where the order has none
-  name-part : (b : Bool) → eqb (length (lettersOf (new .parameters .name))) 0 ≡ b → words (λ j. cond b (getD (groupRow (n, old)) j 0) (getD (groupRow (0, new)) j 0)) 17 7 ≡ counted 16 (lettersOf (over (new .parameters .name) (old .parameters .name)))
-  name-part true e = name-words n old bo ho ∙ ap (counted 16) (sym (letters-over (new .parameters .name) (old .parameters .name) bn true e))
-  name-part false e = name-words 0 new bn hn ∙ ap (counted 16) (sym (letters-over (new .parameters .name) (old .parameters .name) bn false e))
+  name-part : (b : Bool) → eqb (length (lettersOf (new .parameters .name))) 0 ≡ b
+      → words (λ j. cond b (oldWord j) (newWord j)) 17 7 ≡ counted maxLetters (lettersOf (over (new .parameters .name) (old .parameters .name)))
+  name-part true e = name-words n old fo ∙ ap (counted 16) (sym (letters-over (new .parameters .name) (old .parameters .name) (fn .0) true e))
+  name-part false e = name-words 0 new fn ∙ ap (counted 16) (sym (letters-over (new .parameters .name) (old .parameters .name) (fn .0) false e))
 
-  owner-part : words (λ j. cond keeps (getD (groupRow (n, old)) j 0) (getD (groupRow (0, new)) j 0)) 12 24 ≡ counted 11 (cond keeps (old .owners) (new .owners))
-  owner-part = go keeps
-    where
-      go : (k : Bool) → words (λ j. cond k (getD (groupRow (n, old)) j 0) (getD (groupRow (0, new)) j 0)) 12 24 ≡ counted 11 (cond k (old .owners) (new .owners))
-      go true = owner-words n old bo ho
-      go false = owner-words 0 new bn hn
+  owner-part : (k : Bool) → words (λ j. cond k (oldWord j) (newWord j)) 12 24 ≡ counted maxOwners (cond k (old .owners) (new .owners))
+  owner-part true = owner-words n old fo
+  owner-part false = owner-words 0 new fn
 
-  pub made-is : madeRow g keeps (groupRow (0, new)) (groupRow (n, old)) ≡ groupRow (g, record { owners = cond keeps (old .owners) (new .owners); parameters = replaced (new .parameters) (old .parameters) })
+  made-is : madeRow g keeps (groupRow (0, new)) (groupRow (n, old)) ≡ groupRow (g, groupAfter keeps new (some old))
   unfolding madeRow groupRow
   made-is =
       let p = new .parameters in
       let q = old .parameters in
-      λ i. g ∷ held-over (p .setReference) (q .setReference) i ∷ held-over (p .acknowledgedCall) (q .acknowledgedCall) i ∷ held-over (p .broadcast) (q .broadcast) i ∷ held-over (p .class) (q .class) i ∷ held-over (p .lifetime) (q .lifetime) i ∷ held-over (p .temporary) (q .temporary) i ∷ (name-part (eqb (length (lettersOf (p .name))) 0) refl i ++ owner-part i)
+      λ i.
+      g ∷ held-over (p .setReference) (q .setReference) i ∷ held-over (p .acknowledgedCall) (q .acknowledgedCall) i
+      ∷ held-over (p .broadcast) (q .broadcast) i ∷ held-over (p .class) (q .class) i ∷ held-over (p .lifetime) (q .lifetime) i
+      ∷ held-over (p .temporary) (q .temporary) i ∷ (name-part (eqb (length (lettersOf (p .name))) 0) refl i ++ owner-part keeps i)
 
 -- ---- groups that a row has room for ----
 
@@ -105,7 +122,7 @@ fine-from keeps new (some y) f h = (name-over (new .parameters .name) (y .parame
     go true = h y refl .1
     go false = f .1
 
-pub fine-find : (l : List (ℕ × Group)) → FineGroups l → (g : ℕ) (x : Group) → find eqb l g ≡ some x → Fine x
+fine-find : (l : List (ℕ × Group)) → FineGroups l → (g : ℕ) (x : Group) → find eqb l g ≡ some x → Fine x
 fine-find [] f g x e = let z : _≡_ {A = ℕ} 0 1 = cc in absurd (omega arith)
 fine-find (y ∷ l) f g x e = go (eqb g (y .0)) e (fine-find l (f .1) g x)
   where
@@ -133,8 +150,10 @@ make-grows keeps new g l = omega (arith, length-put eqb eqb-true eqb-same l g (g
 
 -- ---- a group put into the rows ----
 
-module _ (rows : List (List ℕ)) (n : ℕ) (h : n ≤ length rows) (q : Plain groupOf groupRow n rows) (f : FineGroups (groupsOf n rows)) (order : List ℕ) (o : groupRow (0, groupOf order .1) ≡ order) (w : Fine (groupOf order .1)) (keeps : Bool) (g : ℕ) where
-  pub make-at : (j : ℕ) → Row eqb groupOf rows n h g j → (row : List ℕ) → row ≡ madeRow g keeps order (getD rows j []) → (n ≡ length (makeGroup keeps (groupOf order .1) g (groupsOf n rows))) × (set rows j row ≡ onto (map groupRow (makeGroup keeps (groupOf order .1) g (groupsOf n rows))) rows)
+module _ (rows : Rows) (n g : ℕ) (keeps : Bool) (order : List ℕ) (o : FineOrder order) (f : FineGroups (groupsOf n rows))
+    (t : Takes groupOf groupRow (makeGroup keeps (groupOf order .1) g (groupsOf n rows)) rows n) where
+  pub make-at : (j : ℕ) → Row eqb groupOf rows n (t .within) g j → (row : List ℕ) → row ≡ madeRow g keeps order (getD rows j [])
+      → Fills groupRow (makeGroup keeps (groupOf order .1) g (groupsOf n rows)) rows (set rows j row) n
   make-at j p row e =
       let new = groupOf order .1 in
       let old = groupOf (getD rows j []) in
@@ -142,28 +161,25 @@ module _ (rows : List (List ℕ)) (n : ℕ) (h : n ≤ length rows) (q : Plain g
       let v = groupAfter keeps new (some (old .1)) in
       let same : g ≡ old .0 = eqb-true g (old .0) (p .is) in
       let r : row ≡ groupRow (g, v) =
-      e ∙ ap (λ (z : List ℕ). madeRow g keeps z (getD rows j [])) (sym o) ∙ ap (madeRow g keeps (groupRow (0, new))) (sym (q j (p .inside)))
-      ∙ made-is g (old .0) keeps new (old .1) (w .0) (w .1) (y .0) (y .1) in
+      e ∙ ap (λ (z : List ℕ). madeRow g keeps z (getD rows j [])) (sym (o .plain))
+      ∙ ap (madeRow g keeps (groupRow (0, new))) (sym (t .plain j (p .inside)))
+      ∙ made-is g (old .0) keeps new (old .1) (o .fine) y in
       let m : makeGroup keeps new g (groupsOf n rows) ≡ set (groupsOf n rows) j (g, v) =
-      ap (λ (z : Option Group). put eqb (groupsOf n rows) g (groupAfter keeps new z)) (p .found) ∙ p .puts v ∙ ap (λ (z : ℕ). set (groupsOf n rows) j (z, v)) (sym same) in (
-        sym (ap length m ∙ length-set (groupsOf n rows) j (g, v) ∙ length-items groupOf groupRow rows n h),
-        ap (set rows j) r ∙ lay-set groupOf groupRow rows n j (g, v) h (p .inside) q ∙ ap (λ (z : List (ℕ × Group)). onto (map groupRow z) rows) (sym m),
-      )
+      ap (λ (z : Option Group). put eqb (groupsOf n rows) g (groupAfter keeps new z)) (p .found) ∙ p .puts v
+      ∙ ap (λ (z : ℕ). set (groupsOf n rows) j (z, v)) (sym same) in
+      fills-at groupOf groupRow rows n (t .within) (t .plain) _ j (g, v) row (p .inside) m r
 
-  pub make-room : Missing eqb (groupOf []) (groupsOf n rows) g → length (makeGroup keeps (groupOf order .1) g (groupsOf n rows)) ≤ length rows → n < length rows
-  make-room p r =
-      let v = groupAfter keeps (groupOf order .1) (find eqb (groupsOf n rows) g) in
-      omega (arith, ap length (p .puts v), length-append (groupsOf n rows) ((g, v) ∷ []), length-items groupOf groupRow rows n h)
+  pub make-room : Missing eqb (groupOf []) (groupsOf n rows) g → n < length rows
+  make-room p = room-last groupOf groupRow rows n (t .within) (t .plain) _ _ (p .puts _) (t .room)
 
-  pub make-behind : n < length rows → Missing eqb (groupOf []) (groupsOf n rows) g → (row : List ℕ) → row ≡ madeRow g false order (replicate 36 0) → (n + 1 ≡ length (makeGroup keeps (groupOf order .1) g (groupsOf n rows))) × (set rows n row ≡ onto (map groupRow (makeGroup keeps (groupOf order .1) g (groupsOf n rows))) rows)
-  make-behind r p row e =
+  pub make-behind : Missing eqb (groupOf []) (groupsOf n rows) g → (row : List ℕ) → row ≡ madeRow g false order (replicate groupWords 0)
+      → Fills groupRow (makeGroup keeps (groupOf order .1) g (groupsOf n rows)) rows (set rows n row) (n + 1)
+  make-behind p row e =
       let new = groupOf order .1 in
       let v = groupAfter keeps new none in
-      let t : row ≡ groupRow (g, v) =
-      e ∙ ap (λ (z : List ℕ). madeRow g false z (replicate 36 0)) (sym o) ∙ ap (madeRow g false (groupRow (0, new))) blank-row
-      ∙ made-is g 0 false new (record { owners = []; parameters = noParameters }) (w .0) (w .1) refl (omega arith) in
+      let r : row ≡ groupRow (g, v) =
+      e ∙ ap (λ (z : List ℕ). madeRow g false z (replicate groupWords 0)) (sym (o .plain)) ∙ ap (madeRow g false (groupRow (0, new))) blank-row
+      ∙ made-is g 0 false new (record { owners = []; parameters = noParameters }) (o .fine) (refl, omega arith) in
       let m : makeGroup keeps new g (groupsOf n rows) ≡ groupsOf n rows ++ ((g, v) ∷ []) =
-      ap (λ (z : Option Group). put eqb (groupsOf n rows) g (groupAfter keeps new z)) (p .found) ∙ p .puts v in (
-        omega (arith, ap length m, length-append (groupsOf n rows) ((g, v) ∷ []), length-items groupOf groupRow rows n h),
-        ap (set rows n) t ∙ lay-last groupOf groupRow rows n (g, v) r q ∙ ap (λ (z : List (ℕ × Group)). onto (map groupRow z) rows) (sym m),
-      )
+      ap (λ (z : Option Group). put eqb (groupsOf n rows) g (groupAfter keeps new z)) (p .found) ∙ p .puts v in
+      fills-last groupOf groupRow rows n (t .within) (t .plain) _ (g, v) row (make-room p) m r

@@ -12,7 +12,7 @@ use Rattle.rules.specs.Ledger.{Group}
 use Rattle.rules.specs.Recorded.{optional, letterCount, letters, valueAt, optionalName, parametersIn}
 use Rattle.store.specs.Storage.{groupOf, groupRow}
 use Rattle.order.specs.Row.{lettersOf, words, valueWord, orderRowOf}
-use Rattle.defining.specs.Groups.{Fine}
+use Rattle.defining.specs.Groups.{FineOrder}
 use Rattle.store.proofs.Groups.{group-back}
 
 -- ---- a list in n words, zeros behind it ----
@@ -63,9 +63,9 @@ module _ (places os : List ℕ) (few : length os ≤ 11) (good : badName (option
   unfolding parametersIn
   order-group = ap groupOf (order-row places os few) ∙ group-back 0 os (parametersIn places) good few
 
-  pub order-again : groupRow (0, groupOf (orderRowOf places os) .1) ≡ orderRowOf places os
-  order-again = ap (λ (e : ℕ × Group). groupRow (0, e .1)) order-group ∙ sym (order-row places os few)
-
-  pub order-fine : Fine (groupOf (orderRowOf places os) .1)
+  pub order-fine : FineOrder (orderRowOf places os)
   unfolding parametersIn
-  order-fine = rw order-group (good, few)
+  order-fine = record {
+    fine = rw order-group (good, few);
+    plain = ap (λ (e : ℕ × Group). groupRow (0, e .1)) order-group ∙ sym (order-row places os few);
+  }

@@ -11,6 +11,7 @@ use Rattle.rules.specs.Parameters.{badName}
 use Rattle.rules.specs.Ledger.{Group}
 use Rattle.rules.specs.Steps.{groupAfter}
 use Rattle.rules.specs.Written.{maxOwners}
+use Rattle.store.specs.Storage.{groupOf, groupRow}
 use Rattle.defining.specs.Each.{each}
 
 -- what becomes of a group, by the law
@@ -27,3 +28,8 @@ Fine x = (badName (x .parameters .name) ≡ false) × (length (x .owners) ≤ ma
 abbrev pub FineGroups : List (ℕ × Group) → Type 0
 FineGroups [] = Unit {0}
 FineGroups (e ∷ l) = Fine (e .1) × FineGroups l
+
+-- an order's row is read back
+pub record FineOrder (order : List ℕ) : Type 0 where
+  pub fine : Fine (groupOf order .1)
+  pub plain : groupRow (0, groupOf order .1) ≡ order

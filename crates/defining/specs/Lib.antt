@@ -1,5 +1,6 @@
 -- The definitions that the contracts of a define cite.
 pub mod Each
+pub mod Takes
 pub mod Pairs
 pub mod Groups
 pub mod Row

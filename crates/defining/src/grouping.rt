@@ -9,14 +9,14 @@ use rows::NAME_LENGTH;
 use rows::OWNER_COUNT;
 use store::Place;
 use store::places::group_place;
-ghost use Prim.Native.Nat.{_≤_, _<_};
-ghost use lib.ListN.{length};
+ghost use Prim.Native.Nat.{_<_};
 ghost use mathlib.Core.Path.{_≡_};
 ghost use Rattle.rows.specs.Layout.{groupWords};
 ghost use Rattle.order.specs.Keys.{groupKeys};
-ghost use Rattle.store.specs.Lists.{Fills, Plain};
+ghost use Rattle.store.specs.Lists.{Fills};
 ghost use Rattle.store.specs.Storage.{groupOf, groupRow, groupsOf};
-ghost use Rattle.defining.specs.Groups.{makeGroup, makeGroups, Fine, FineGroups};
+ghost use Rattle.defining.specs.Groups.{makeGroup, makeGroups, FineGroups, FineOrder};
+ghost use Rattle.defining.specs.Takes.{Takes};
 ghost use Rattle.defining.specs.Row.{keepsWord, madeWord, madeRow};
 
 fn keeps_word(keeps: bool, order: [u64; GROUP_WORDS], j: usize) -> bool
@@ -77,7 +77,8 @@ fn put_group(
     keeps: bool,
     order: [u64; GROUP_WORDS],
 ) -> usize
-    requires { ⌜ (count ≤ length (now groups)) × (length (makeGroup keeps (groupOf order .1) (group .0) (groupsOf count (now groups))) ≤ length (now groups)) × Plain groupOf groupRow count (now groups) × FineGroups (groupsOf count (now groups)) × Fine (groupOf order .1) × (groupRow (0, groupOf order .1) ≡ order) ⌝ }
+    requires { ⌜ Takes groupOf groupRow (makeGroup keeps (groupOf order .1) (group .0) (groupsOf count (now groups))) (now groups) count
+        × FineGroups (groupsOf count (now groups)) × FineOrder order ⌝ }
     ensures { λ r. ⌜ Fills groupRow (makeGroup keeps (groupOf order .1) (group .0) (groupsOf count (now (groups .entry))))
         (now (groups .entry)) (now (groups .exit)) r ⌝ }
 {
@@ -98,7 +99,8 @@ pub fn make_groups(
     keeps: bool,
     order: [u64; GROUP_WORDS],
 ) -> usize
-    requires { ⌜ (count ≤ length (now groups)) × (length (makeGroups keeps (groupOf order .1) (groupKeys named) (groupsOf count (now groups))) ≤ length (now groups)) × Plain groupOf groupRow count (now groups) × FineGroups (groupsOf count (now groups)) × Fine (groupOf order .1) × (groupRow (0, groupOf order .1) ≡ order) ⌝ }
+    requires { ⌜ Takes groupOf groupRow (makeGroups keeps (groupOf order .1) (groupKeys named) (groupsOf count (now groups))) (now groups) count
+        × FineGroups (groupsOf count (now groups)) × FineOrder order ⌝ }
     ensures { λ r. ⌜ Fills groupRow (makeGroups keeps (groupOf order .1) (groupKeys named) (groupsOf count (now (groups .entry))))
         (now (groups .entry)) (now (groups .exit)) r ⌝ }
 {

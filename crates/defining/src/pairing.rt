@@ -10,12 +10,11 @@ use order::keys::radio_count;
 use rows::PAIR_WORDS;
 use store::Place;
 use store::places::pair_place;
-ghost use Prim.Native.Nat.{_≤_};
-ghost use lib.ListN.{length};
 ghost use mathlib.Core.Path.{_≡_};
 ghost use Rattle.order.specs.Keys.{groupKeys, radioKeys};
-ghost use Rattle.store.specs.Lists.{Fills, Plain};
+ghost use Rattle.store.specs.Lists.{Fills};
 ghost use Rattle.store.specs.Storage.{pairOf, pairRow, pairsOf};
+ghost use Rattle.defining.specs.Takes.{Takes};
 ghost use Rattle.defining.specs.Pairs.{setPair, setRadios, setAll};
 
 // A pair is set, in its place or behind the others; the new count is returned.
@@ -26,7 +25,7 @@ fn set_pair(
     radio: RadioKey,
     state: u64,
 ) -> usize
-    requires { ⌜ (count ≤ length (now pairs)) × (length (setPair state (group .0) (radio .0) (pairsOf count (now pairs))) ≤ length (now pairs)) × Plain pairOf pairRow count (now pairs) ⌝ }
+    requires { ⌜ Takes pairOf pairRow (setPair state (group .0) (radio .0) (pairsOf count (now pairs))) (now pairs) count ⌝ }
     ensures { λ r. ⌜ Fills pairRow (setPair state (group .0) (radio .0) (pairsOf count (now (pairs .entry))))
         (now (pairs .entry)) (now (pairs .exit)) r ⌝ }
 {
@@ -46,7 +45,7 @@ fn set_radios(
     radios: Radios,
     state: u64,
 ) -> usize
-    requires { ⌜ (count ≤ length (now pairs)) × (length (setRadios state (radioKeys radios) (group .0) (pairsOf count (now pairs))) ≤ length (now pairs)) × Plain pairOf pairRow count (now pairs) ⌝ }
+    requires { ⌜ Takes pairOf pairRow (setRadios state (radioKeys radios) (group .0) (pairsOf count (now pairs))) (now pairs) count ⌝ }
     ensures { λ r. ⌜ Fills pairRow (setRadios state (radioKeys radios) (group .0) (pairsOf count (now (pairs .entry))))
         (now (pairs .entry)) (now (pairs .exit)) r ⌝ }
 {
@@ -68,7 +67,7 @@ pub fn set_all(
     radios: Radios,
     state: u64,
 ) -> usize
-    requires { ⌜ (count ≤ length (now pairs)) × (length (setAll state (radioKeys radios) (groupKeys named) (pairsOf count (now pairs))) ≤ length (now pairs)) × Plain pairOf pairRow count (now pairs) ⌝ }
+    requires { ⌜ Takes pairOf pairRow (setAll state (radioKeys radios) (groupKeys named) (pairsOf count (now pairs))) (now pairs) count ⌝ }
     ensures { λ r. ⌜ Fills pairRow (setAll state (radioKeys radios) (groupKeys named) (pairsOf count (now (pairs .entry))))
         (now (pairs .entry)) (now (pairs .exit)) r ⌝ }
 {

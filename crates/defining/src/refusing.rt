@@ -84,7 +84,7 @@ fn new_radios(pairs: &[[u64; PAIR_WORDS]], count: usize, group: GroupKey, radios
 
 // How many of the named pairs are not there yet.
 fn new_pairs(pairs: &[[u64; PAIR_WORDS]], count: usize, named: Groups, radios: Radios) -> usize
-    requires { ⌜ (count ≤ length (now pairs)) ⌝ }
+    requires { ⌜ count ≤ length (now pairs) ⌝ }
     ensures { λ r. ⌜ (r ≡ newPairs (pairsOf count (now (pairs .entry))) (radioKeys radios) (groupKeys named)) × (r ≤ 100) ⌝ }
 {
     let end = group_count(named);
@@ -127,23 +127,24 @@ fn define_form_fault(asker: Itsi, place: [u32; PLACES], lists: DefineLists) -> R
 // What a define is refused with for what stands.
 fn define_stand_fault(
     groups: &[[u64; GROUP_WORDS]],
-    group_count: usize,
+    groups_held: usize,
     pairs: &[[u64; PAIR_WORDS]],
-    pair_count: usize,
+    pairs_held: usize,
     asker: RadioKey,
     named: Groups,
     radios: Radios,
     room: usize,
 ) -> Reply
-    requires { ⌜ («group_count» ≤ length (now groups)) × («group_count» ≤ maxGroups) × («pair_count» ≤ length (now pairs)) × («pair_count» ≤ maxPairs) ⌝ }
-    ensures { λ r. ⌜ r ≡ replyOf (first (defineStand (groupsOf «group_count» (now (groups .entry))) (pairsOf «pair_count» (now (pairs .entry)))
+    requires { ⌜ («groups_held» ≤ length (now groups)) × («groups_held» ≤ maxGroups)
+        × («pairs_held» ≤ length (now pairs)) × («pairs_held» ≤ maxPairs) ⌝ }
+    ensures { λ r. ⌜ r ≡ replyOf (first (defineStand (groupsOf «groups_held» (now (groups .entry))) (pairsOf «pairs_held» (now (pairs .entry)))
         asker (groupKeys named) (radioKeys radios) room)) ⌝ }
 {
-    if any_group(groups, group_count, named, asker, Standing::Taken) {
+    if any_group(groups, groups_held, named, asker, Standing::Taken) {
         return Reply::Refused(Refusal::NotOwner);
     }
-    let group_total = group_count + new_groups(groups, group_count, named);
-    let pair_total = pair_count + new_pairs(pairs, pair_count, named, radios);
+    let group_total = groups_held + new_groups(groups, groups_held, named);
+    let pair_total = pairs_held + new_pairs(pairs, pairs_held, named, radios);
     let full = (MAX_GROUPS < group_total) | (MAX_PAIRS < pair_total);
     if full {
         return Reply::Refused(Refusal::Full);
@@ -166,7 +167,8 @@ pub fn define_fault(
     radios: Radios,
     room: usize,
 ) -> Reply
-    requires { ⌜ (lists ≡ listsOf place) × (named ≡ groupsAs (numbersIn (listOf (groupList place)))) × (radios ≡ radiosAs (numbersIn (listOf (radioList place)))) ⌝ }
+    requires { ⌜ (lists ≡ listsOf place) × (named ≡ groupsAs (numbersIn (listOf (groupList place))))
+        × (radios ≡ radiosAs (numbersIn (listOf (radioList place)))) ⌝ }
     ensures { λ r. ⌜ Judges (contents (now (head .entry)) (now (groups .entry)) (now (pairs .entry))) (defineStep asker place room) r ⌝ }
 {
     if !written(head, groups, pairs) {
