@@ -1,9 +1,11 @@
 // The text of desk's replies. Each public function puts a reply to the front of `out` and answers its length; where `out` has no room for
 // the longest reply it puts nothing and answers 0.
+mod listed;
 mod parts;
 mod pieces;
-mod rows;
 
+use listed::put_members;
+use listed::put_orders;
 use parts::put_back;
 use parts::put_front;
 use pieces::put_byte;
@@ -12,8 +14,6 @@ use replies::Members;
 use replies::Reply;
 use replies::Sent;
 use replies::Shown;
-use rows::put_members;
-use rows::put_orders;
 ghost use mathlib.Core.Path.{_≡_};
 ghost use Prim.Native.Nat.{_≤_, min};
 ghost use lib.ListN.{length};

@@ -1,8 +1,8 @@
 -- `text::rows::put_order` meets its contract: its pieces are put one behind the other.
 use Rattle.text.proofs.Puts.{put-then}
 use native.Mathlib.Omega.{arith}
-use Rattle.text.proofs.rows.put_order.Statement.{statement}
-use Rattle.text.proofs.rows.put_order.Tie as tie
+use Rattle.text.proofs.listed.put_order.Statement.{statement}
+use Rattle.text.proofs.listed.put_order.Tie as tie
 
 array-read-put-kind : tie.Need-array-read-put-kind
 array-read-put-kind c = omega arith

@@ -1,7 +1,7 @@
 -- `text::rows::kind_letter` meets its contract: an assignment, or not.
 use borrow.Author.Tests.{eq-eqb, ne-eqb}
-use Rattle.text.proofs.rows.kind_letter.Statement.{statement}
-use Rattle.text.proofs.rows.kind_letter.Tie as tie
+use Rattle.text.proofs.listed.kind_letter.Statement.{statement}
+use Rattle.text.proofs.listed.kind_letter.Tie as tie
 
 returns : tie.Need-returns
 returns c = simp (eq-eqb _ _ (c .if1 .taken))

@@ -1,8 +1,8 @@
 -- `text::rows::put_member` meets its contract: its pieces are put one behind the other.
 use Rattle.text.proofs.Puts.{put-then}
 use native.Mathlib.Omega.{arith}
-use Rattle.text.proofs.rows.put_member.Statement.{statement}
-use Rattle.text.proofs.rows.put_member.Tie as tie
+use Rattle.text.proofs.listed.put_member.Statement.{statement}
+use Rattle.text.proofs.listed.put_member.Tie as tie
 
 array-read-put-number : tie.Need-array-read-put-number
 array-read-put-number c = omega arith

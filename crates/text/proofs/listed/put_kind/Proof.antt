@@ -3,8 +3,8 @@ use native.Mathlib.Numerals.{add-one}
 use native.Mathlib.Omega.{arith}
 use lib.ListN.{length-set}
 use borrow.Author.Needs.{needs}
-use Rattle.text.proofs.rows.put_kind.Statement.{statement}
-use Rattle.text.proofs.rows.put_kind.Tie as tie
+use Rattle.text.proofs.listed.put_kind.Statement.{statement}
+use Rattle.text.proofs.listed.put_kind.Tie as tie
 
 slice-write-out : tie.Need-slice-write-out
 slice-write-out c = omega arith
