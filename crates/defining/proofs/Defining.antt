@@ -17,13 +17,14 @@ use Rattle.rules.specs.Arrival.{put}
 use Rattle.rules.specs.Number.{Numbers, key, numbersIn, wide, badList, untaken}
 use Rattle.rules.specs.Mark.{begun}
 use Rattle.rules.specs.Parameters.{badName, badParameters}
-use Rattle.rules.specs.Order.{Define, define, defineGroups, defineRadios}
+use Rattle.rules.specs.Order.{Define, define, defineGroups, defineRadios, defineOwners}
 use Rattle.rules.specs.Effect.{Effect, effect}
 use Rattle.rules.specs.Outgoing.{assign}
 use Rattle.rules.specs.Recorded.{saysYes, optional, optionalName, parametersIn, callRelated, acknowledgementRequested, defineOf}
 use Rattle.rules.specs.Refusals.{first, tests, refuses, maxGroups, maxPairs}
 use Rattle.rules.specs.Ledger.{Group, Ledger, view}
 use Rattle.rules.specs.Steps.{given, groupAfter, tally, apply, refused}
+use Rattle.rules.specs.Written.{maxOwners}
 use Rattle.rules.proofs.Tests.{or-l, or-r}
 use Rattle.rules.proofs.Walks.{length-orders}
 use Rattle.rules.proofs.Ranges.{in-range}
@@ -52,6 +53,7 @@ use Rattle.store.proofs.FormLaws.{law-form}
 use Rattle.replies.specs.Orders.{replyOf, verdict}
 use Rattle.replies.specs.declared.Reply.the-variants.{Done, Refused}
 use Rattle.replies.proofs.Orders.{first-none, first-some, reply-none, reply-some, tests-pass}
+use Rattle.defining.specs.Parts.{anyUntaken}
 use Rattle.defining.specs.Groups.{makeGroups}
 use Rattle.defining.specs.Pairs.{setAll}
 use Rattle.defining.specs.Sent.{assignOrders}
@@ -66,31 +68,28 @@ standing c w = written-form placing (ledgerOf c) (law-form c w) .standing
 
 module _ (c : Contents) (w : Sound c) (asker : Itsi) (k : RadioKey) (same : k .0 ≡ key (asker .0)) (values : List ℕ) (room : ℕ)
     (whole : length values ≡ places) where
+  abbrev o : Define
+  o = defineOf (asker .0) values
+
   abbrev form : List (Refusal × Bool)
-  form = defineForm asker values
+  form = defineForm o
 
   abbrev stand : List (Refusal × Bool)
-  stand = defineStand (ledgerOf c .groups) (ledgerOf c .pairs) k (numbersIn (listOf (groupList values))) (numbersIn (listOf (radioList values))) room
+  stand = defineStand (ledgerOf c .groups) (ledgerOf c .pairs) k (defineGroups o) (defineRadios o) room
 
-  define-tests : tests (view (ledgerOf c)) (tally placing (ledgerOf c) (effect (view (ledgerOf c)) (defineStep asker values room))) (defineStep asker values room)
-      ≡ form ++ stand
+  define-tests : tests (view (ledgerOf c)) (tally placing (ledgerOf c) (effect (view (ledgerOf c)) (define o room))) (define o room) ≡ form ++ stand
   unfolding defineOf
   define-tests =
       let l = ledgerOf c in
-      let o = defineOf (asker .0) values in
-      let gs = sym (lists-said (asker .0) values) in
-      let os = sym (owners-said (asker .0) values) in
-      let rs = sym (radios-said (asker .0) values) in
       let n = define-groups-total placing by-arrival l (standing c w) o room in
       let m = define-pairs-total placing by-arrival l (standing c w) o room in
-      (λ i.
+      λ i.
       (BadOrder, bad-order (asker .0) values whole i)
-      ∷ (FormNotTaken, saysYes values callRelated || (untaken (gs i) || (untaken (os i) || untaken (rs i))))
+      ∷ (FormNotTaken, o .call || anyUntaken o)
       ∷ (NotOwner, any (λ g. groupFault Taken (find eqb (l .groups) g) (sym same i)) (defineGroups o))
       ∷ (Full, ltb maxGroups (n i) || ltb maxPairs (m i))
       ∷ (NoRoom, ltb room (length-orders assign (defineGroups o) (defineRadios o) i))
-      ∷ [])
-      ∙ (λ i. form ++ defineStand (l .groups) (l .pairs) k (numbersIn (gs i)) (numbersIn (rs i)) room)
+      ∷ []
 
   pub form-refused : (r : Refusal) → Refused r ≡ replyOf (first form) → Refused r ≡ replyOf (verdict c (defineStep asker values room))
   form-refused r e = rw (w .form) (ap replyOf (sym (ap first define-tests ∙ first-some form stand r (reply-some (first form) r e))))
@@ -98,27 +97,14 @@ module _ (c : Contents) (w : Sound c) (asker : Itsi) (k : RadioKey) (same : k .0
   pub stand-replies : Done ≡ replyOf (first form) → replyOf (first stand) ≡ replyOf (verdict c (defineStep asker values room))
   stand-replies e = rw (w .form) (ap replyOf (sym (ap first define-tests ∙ first-none form stand (reply-none (first form) e))))
 
--- ---- the lists that are read are those of the order ----
-
-given-present : {A : Type 0} (b : Bool) (x : A) → present (cond b (some x) none) ≡ b
-given-present true x = refl
-given-present false x = refl
+-- ---- the row that is read says the group that the order gives, and the state is the law's ----
 
 module _ (asker : Itsi) (values : List ℕ) (l : Ledger) (room : ℕ) where
-  pub keeps-said : not (ownerList values .given) ≡ effect (view l) (defineStep asker values room) .keeps
-  keeps-said =
-      ap not (sym (given-present (ownerList values .given) (numbersOf (ownerList values .numbers))))
-      ∙ ap (λ (o : Option Numbers). not (present o)) (owners-said (asker .0) values)
-
-  pub group-said : (owners : Owners) → owners ≡ ownersAs (once (key (asker .0) ∷ numbersIn (listOf (ownerList values))))
-      → length (ownersHeld owners) ≤ 11 → badName (optionalName values) ≡ false
-      → groupOf (orderRowOf values (ownersHeld owners)) .1 ≡ given (effect (view l) (defineStep asker values room))
+  pub group-said : (os : List ℕ) → os ≡ defineOwners (defineOf (asker .0) values) → length os ≤ maxOwners → badName (optionalName values) ≡ false
+      → groupOf (orderRowOf values os) .1 ≡ given (effect (view l) (defineStep asker values room))
   unfolding defineOf
-  group-said owners e few good =
-      let held = ap ownersHeld e ∙ owners-held (once (key (asker .0) ∷ numbersIn (listOf (ownerList values))))
-      ∙ ap (λ (o : Option Numbers). once (key (asker .0) ∷ numbersIn o)) (owners-said (asker .0) values) in
-      ap (λ (x : ℕ × Group). x .1) (order-group values (ownersHeld owners) few good)
-      ∙ ap (λ (os : List ℕ). record { owners = os; parameters = parametersIn values }) held
+  group-said os e few good =
+      ap (λ (x : ℕ × Group). x .1) (order-group values os few good) ∙ ap (λ (z : List ℕ). record { owners = z; parameters = parametersIn values }) e
 
   pub state-said : begun (optional values acknowledgementRequested) .state ≡ effect (view l) (defineStep asker values room) .begins .state
   unfolding defineOf

@@ -1,4 +1,5 @@
 -- The definitions that the contracts of a define cite.
+pub mod Parts
 pub mod Each
 pub mod Takes
 pub mod Pairs

@@ -6,32 +6,24 @@ use lib.Dec.{eqb, ltb}
 use lib.ListN.{length}
 use Rattle.refusal.specs.declared.Refusal.{Refusal}
 use Rattle.refusal.specs.declared.Refusal.the-variants.{BadOrder, FormNotTaken, NotOwner, Full, NoRoom}
-use Rattle.layout.specs.Frame.{judgedOf}
-use Rattle.layout.specs.declared.Kind.the-variants as kind
 use Rattle.rules.specs.Lists.{any}
 use Rattle.rules.specs.Entries.{find}
 use Rattle.rules.specs.Mark.{Mark}
-use Rattle.rules.specs.Number.{wide, untaken}
-use Rattle.rules.specs.Recorded.{saysYes, callRelated}
+use Rattle.rules.specs.Number.{wide}
+use Rattle.rules.specs.Order.{Define}
 use Rattle.rules.specs.Refusals.{refuses, maxGroups, maxPairs}
 use Rattle.rules.specs.Ledger.{Group, Pair}
-use Rattle.order.specs.Lists.{listOf}
-use Rattle.order.specs.Recorded.{groupList, ownerList, radioList}
-use Rattle.order.specs.declared.Itsi.{Itsi}
 use Rattle.order.specs.declared.RadioKey.{RadioKey}
 use Rattle.store.specs.Named.{groupFault}
 use Rattle.store.specs.declared.Standing.the-variants.{Taken}
+use Rattle.defining.specs.Parts.{anyUntaken}
 use Rattle.defining.specs.Totals.{newGroups, newPairs}
 
 -- of its form
-abbrev pub defineForm : Itsi → List ℕ → List (Refusal × Bool)
-defineForm asker places =
-    (BadOrder, wide (asker .0) || refuses (judgedOf kind.Define places))
-    ∷ (
-      FormNotTaken,
-      saysYes places callRelated
-          || (untaken (listOf (groupList places)) || (untaken (listOf (ownerList places)) || untaken (listOf (radioList places)))),
-    )
+abbrev pub defineForm : Define → List (Refusal × Bool)
+defineForm o =
+    (BadOrder, wide (o .asker) || refuses (o .judged))
+    ∷ (FormNotTaken, o .call || anyUntaken o)
     ∷ []
 
 -- and of what stands

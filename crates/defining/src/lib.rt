@@ -2,19 +2,17 @@
 mod grouping;
 mod outgoing;
 mod pairing;
+mod parts;
 mod refusing;
 
 use crate::grouping::make_groups;
 use crate::outgoing::assign_orders;
 use crate::pairing::set_all;
+use crate::parts::parts_of;
 use crate::refusing::define_fault;
 use frame::Record;
 use order::Itsi;
-use order::keys::groups_in;
-use order::keys::owners_in;
-use order::keys::radios_in;
 use order::record::first_state;
-use order::record::lists_of;
 use order::row::order_row;
 use replies::Reply;
 use replies::Sent;
@@ -42,29 +40,18 @@ pub fn define(
         (contents (now (head .exit)) (now (groups .exit)) (now (pairs .exit))) r ⌝ }
 {
     let place = values.place;
-    let lists = lists_of(place);
-    let owners = lists.owners;
-    let named = groups_in(lists.groups);
-    let radios = radios_in(lists.radios);
-    let fault = define_fault(
-        head,
-        groups,
-        pairs,
-        asker,
-        place,
-        lists,
-        named,
-        radios,
-        out.len(),
-    );
+    let parts = parts_of(asker, place);
+    let fault = define_fault(head, groups, pairs, asker, place, parts, out.len());
     if let Reply::Refused(refusal) = fault {
         return Sent::Refused(refusal);
     }
     let group_count = head[GROUP_COUNT];
     let pair_count = head[PAIR_COUNT];
-    let row = order_row(place, owners_in(asker, owners));
+    let named = parts.named;
+    let radios = parts.radios;
+    let row = order_row(place, parts.owners);
     let sent = assign_orders(named, radios, out);
-    let made = make_groups(groups, group_count as usize, named, !owners.given, row);
+    let made = make_groups(groups, group_count as usize, named, parts.keeps, row);
     let set = set_all(
         pairs,
         pair_count as usize,

@@ -1,9 +1,9 @@
 // What a define is refused with: each rule over the whole order, in the order of the law.
+use crate::parts::Parts;
 use frame::Judged;
 use frame::Kind;
 use frame::PLACES;
 use frame::Record;
-use order::DefineLists;
 use order::GroupKey;
 use order::Groups;
 use order::Itsi;
@@ -14,7 +14,6 @@ use order::keys::group_count;
 use order::keys::radio_at;
 use order::keys::radio_count;
 use order::keys::radio_key;
-use order::lists::untaken;
 use order::lists::wide;
 use refusal::Refusal;
 use replies::Reply;
@@ -35,14 +34,13 @@ use table::place::YES;
 ghost use Prim.Native.Nat.{_≤_};
 ghost use lib.ListN.{length};
 ghost use mathlib.Core.Path.{_≡_};
-ghost use Rattle.rules.specs.Number.{numbersIn};
+ghost use Rattle.rules.specs.Recorded.{defineOf};
 ghost use Rattle.rules.specs.Refusals.{maxGroups, maxPairs, first, refuses};
-ghost use Rattle.order.specs.Keys.{groupsAs, radiosAs, groupKeys, radioKeys};
-ghost use Rattle.order.specs.Lists.{listOf};
-ghost use Rattle.order.specs.Recorded.{groupList, radioList, listsOf};
+ghost use Rattle.order.specs.Keys.{groupKeys, radioKeys};
 ghost use Rattle.order.specs.Steps.{defineStep};
 ghost use Rattle.store.specs.Storage.{contents, pairsOf, groupsOf};
 ghost use Rattle.replies.specs.Orders.{replyOf, Judges};
+ghost use Rattle.defining.specs.Parts.{partsOf};
 ghost use Rattle.defining.specs.Totals.{newGroups, newRadios, newPairs};
 ghost use Rattle.defining.specs.Tests.{defineForm, defineStand};
 
@@ -108,16 +106,15 @@ fn refuses(judged: Judged) -> bool
 }
 
 // What a define is refused with for its form.
-fn define_form_fault(asker: Itsi, place: [u32; PLACES], lists: DefineLists) -> Reply
-    requires { ⌜ lists ≡ listsOf place ⌝ }
-    ensures { λ r. ⌜ r ≡ replyOf (first (defineForm asker place)) ⌝ }
+fn define_form_fault(asker: Itsi, place: [u32; PLACES], untaken: bool) -> Reply
+    requires { ⌜ untaken ≡ partsOf asker place .untaken ⌝ }
+    ensures { λ r. ⌜ r ≡ replyOf (first (defineForm (defineOf (asker .0) place))) ⌝ }
 {
     let bad = wide(asker.0) | refuses(frame::fault(Kind::Define, Record { place }));
     if bad {
         return Reply::Refused(Refusal::BadOrder);
     }
-    let other = (place[CALL_RELATED] == YES)
-        | (untaken(lists.groups) | (untaken(lists.owners) | untaken(lists.radios)));
+    let other = (place[CALL_RELATED] == YES) | untaken;
     if other {
         return Reply::Refused(Refusal::FormNotTaken);
     }
@@ -155,26 +152,23 @@ fn define_stand_fault(
     Reply::Done
 }
 
-// What a define is refused with; `named` and `radios` are the groups and radios of its lists.
+// What a define is refused with; its lists have been read.
 pub fn define_fault(
     head: &[u64],
     groups: &[[u64; GROUP_WORDS]],
     pairs: &[[u64; PAIR_WORDS]],
     asker: Itsi,
     place: [u32; PLACES],
-    lists: DefineLists,
-    named: Groups,
-    radios: Radios,
+    parts: Parts,
     room: usize,
 ) -> Reply
-    requires { ⌜ (lists ≡ listsOf place) × (named ≡ groupsAs (numbersIn (listOf (groupList place))))
-        × (radios ≡ radiosAs (numbersIn (listOf (radioList place)))) ⌝ }
+    requires { ⌜ parts ≡ partsOf asker place ⌝ }
     ensures { λ r. ⌜ Judges (contents (now (head .entry)) (now (groups .entry)) (now (pairs .entry))) (defineStep asker place room) r ⌝ }
 {
     if !written(head, groups, pairs) {
         return Reply::Refused(Refusal::NotWritten);
     }
-    let fault = define_form_fault(asker, place, lists);
+    let fault = define_form_fault(asker, place, parts.untaken);
     let Reply::Done = fault else {
         return fault;
     };
@@ -186,8 +180,8 @@ pub fn define_fault(
         pairs,
         pair_count as usize,
         radio_key(asker),
-        named,
-        radios,
+        parts.named,
+        parts.radios,
         room,
     )
 }

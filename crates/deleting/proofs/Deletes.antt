@@ -17,9 +17,8 @@ use Rattle.rules.specs.Effect.{effect}
 use Rattle.rules.specs.Outgoing.{outgoing}
 use Rattle.rules.specs.Refusals.{first, tests}
 use Rattle.rules.specs.Demand.{entryRadios}
-use Rattle.rules.specs.Ledger.{Group, Pair, samePair, view, members}
+use Rattle.rules.specs.Ledger.{Group, Pair, view, members}
 use Rattle.rules.specs.Steps.{tally, apply, refused}
-use Rattle.rules.proofs.EntryLaws.{Single}
 use Rattle.rules.proofs.Effects.{pairs-single}
 use Rattle.rules.proofs.Arrival.{by-arrival}
 use Rattle.rules.proofs.Walks.{alter-all}
@@ -38,7 +37,7 @@ use Rattle.replies.specs.declared.Reply.the-variants.{Done, Refused}
 use Rattle.replies.proofs.Orders.{first-none, first-some, reply-none, reply-some, alter-same, tests-pass}
 use Rattle.turning.specs.Turns.{turnOf}
 use Rattle.gathering.specs.Rows.{everyone}
-use Rattle.deleting.specs.Leaving.{leavingOrders, remaining}
+use Rattle.deleting.specs.Leaving.{leavingOrders}
 use Rattle.deleting.specs.Deletes.{formTests, standTests, deleteTurn, groupsLeft, pairsLeft}
 
 given-present : {A : Type 0} (b : Bool) (x : A) → present (cond b (some x) none) ≡ b
@@ -71,8 +70,8 @@ module _ (c : Contents) (w : Sound c) where
 
     pub delete-sends : outgoing (view (ledgerOf c)) (tally placing (ledgerOf c) (effect (view (ledgerOf c)) step)) step
         ≡ leavingOrders deassign (radios .given) (numbersIn (listOf radios)) (ledgerOf c .pairs) (numbersIn (listOf named))
-    delete-sends = rw given
-        (join-same _ _ (λ g. rw (given-present (radios .given) (numbersOf (radios .numbers)), everyone-members g)) (numbersIn (some (numbersOf (named .numbers)))))
+    delete-sends = rw given (join-same _ _
+        (λ g. rw (given-present (radios .given) (numbersOf (radios .numbers)), everyone-members g)) (numbersIn (some (numbersOf (named .numbers)))))
 
     -- its tests are those of form, then those of what stands
     delete-tests : tests (view (ledgerOf c)) (tally placing (ledgerOf c) (effect (view (ledgerOf c)) step)) step ≡ forms ++ stands
@@ -113,7 +112,8 @@ module _ (m : Mark) where
   deleted-turn false false e listed gs rs k = absurd (true≢false e)
 
 -- the groups: those named go where the delete says so
-deleted-groups : (remove : Bool) (named : List ℕ) (l : List (ℕ × Group)) → groupsLeft named remove l ≡ alter (λ g x. cond (remove && mem g named) none (some x)) l
+deleted-groups : (remove : Bool) (named : List ℕ) (l : List (ℕ × Group))
+    → groupsLeft named remove l ≡ alter (λ g x. cond (remove && mem g named) none (some x)) l
 deleted-groups true named l = refl
 deleted-groups false named l = sym (alter-all l)
 

@@ -43,7 +43,7 @@ module _ (p : ℕ → Bool) (xs out out₀ : List ℕ) (i k : ℕ) (h : i < leng
   kept-out q = rw (kept-turn false q, append-nil) (n, e)
 
 -- what was laid at the front, taken again
-pub taken-front : (l room room′ : List ℕ) (n : ℕ) → n ≡ length l → room′ ≡ onto l room → take n room′ ≡ l
+taken-front : (l room room′ : List ℕ) (n : ℕ) → n ≡ length l → room′ ≡ onto l room → take n room′ ≡ l
 taken-front l room room′ n e d = rw d (take-at l (drop (length l) room) n (sym e))
 
 pub room-stays : (l room room′ : List ℕ) (n : ℕ) → n ≡ length l → room′ ≡ onto l room → n ≤ maxPairs → length room ≡ maxPairs → length room′ ≡ maxPairs
@@ -71,14 +71,16 @@ module _ (leave listed : Bool) (radios : List ℕ) (pairs : List (Pair × Mark))
   count-at = m ∙ ap (λ (x : ℕ). length (leaving leave listed radios pairs x)) e ∙ sym (length-map (leaving leave listed radios pairs (getD named i 0)) _)
 
   pub counted : at + n ≡ length (leavingOrders leave listed radios pairs (take (i + 1) named))
-  counted = rw (join-turn sent named i h, length-append (leavingOrders leave listed radios pairs (take i named)) (sent (getD named i 0))) (omega (arith, a, count-at))
+  counted =
+      rw (join-turn sent named i h, length-append (leavingOrders leave listed radios pairs (take i named)) (sent (getD named i 0))) (omega (arith, a, count-at))
 
   pub within : at + n ≤ length (leavingOrders leave listed radios pairs named)
   within = omega (arith, counted, join-front sent named (i + 1))
 
   -- a turn that lays the group's orders
   pub sent-more : (room room′ : List ℕ) (out out′ out₀ : Rows) → room′ ≡ onto (leaving leave listed radios pairs g) room
-      → length (leavingOrders leave listed radios pairs named) ≤ length out → out ≡ onto (map orderRow (leavingOrders leave listed radios pairs (take i named))) out₀
+      → length (leavingOrders leave listed radios pairs named) ≤ length out
+      → out ≡ onto (map orderRow (leavingOrders leave listed radios pairs (take i named))) out₀
       → out′ ≡ pushed out at (map orderRow (orders deassign g (take n room′)))
       → out′ ≡ onto (map orderRow (leavingOrders leave listed radios pairs (take (i + 1) named))) out₀
   sent-more room room′ out out′ out₀ d r o q =

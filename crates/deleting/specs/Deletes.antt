@@ -28,7 +28,7 @@ formTests asker groups deassign radios =
     ∷ (FormNotTaken, untaken (listOf groups) || untaken (listOf radios))
     ∷ []
 
--- and those of what stands
+-- and those of what stands, by the asker's key
 abbrev pub standTests : List (ℕ × Group) → List (Pair × Mark) → ℕ → List ℕ → Bool → Bool → Bool → List ℕ → ℕ → List (Refusal × Bool)
 standTests groups pairs asker named remove deassign listed radios room =
     (NoSuchGroup, any (λ g. groupFault Missing (find eqb groups g) asker) named)

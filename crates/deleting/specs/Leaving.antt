@@ -2,7 +2,7 @@
 use Prim.Native.Nat.{ℕ}
 use mathlib.Core.Bool.{Bool, cond}
 use mathlib.Core.List.{List, []}
-use mathlib.Core.Option.{Option, none, some}
+use mathlib.Core.Option.{none, some}
 use Rattle.rules.specs.Lists.{keep, present, mem, join}
 use Rattle.rules.specs.Entries.{find, alter}
 use Rattle.rules.specs.Mark.{Mark}

@@ -20,7 +20,6 @@ use rows::GROUP_WORDS;
 use rows::ORDER_WORDS;
 use rows::PAIR_COUNT;
 use rows::PAIR_WORDS;
-ghost use mathlib.Core.Path.{_≡_};
 ghost use Rattle.order.specs.Steps.{deleteStep};
 ghost use Rattle.store.specs.Storage.{contents};
 ghost use Rattle.replies.specs.Sending.{Sends};

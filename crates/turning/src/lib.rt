@@ -63,7 +63,10 @@ fn ticked_row(row: [u64; PAIR_WORDS]) -> [u64; PAIR_WORDS]
 fn names(groups: &[u64], radios: &[u64], row: [u64; PAIR_WORDS]) -> bool
     ensures { λ r. ⌜ r ≡ (mem (getD row pairGroup 0) (now (groups .entry)) && mem (getD row pairRadio 0) (now (radios .entry))) ⌝ }
 {
-    member(groups, row[PAIR_GROUP]) & member(radios, row[PAIR_RADIO])
+    if member(groups, row[PAIR_GROUP]) {
+        return member(radios, row[PAIR_RADIO]);
+    }
+    false
 }
 
 fn stays(turn: Turn, groups: &[u64], radios: &[u64], row: [u64; PAIR_WORDS]) -> bool

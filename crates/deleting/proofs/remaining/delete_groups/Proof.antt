@@ -12,10 +12,6 @@ use Rattle.turning.proofs.Fronts.{front}
 use borrow.Author.Needs.{needs}
 use Rattle.deleting.proofs.remaining.delete_groups.Statement.{statement}
 use Rattle.deleting.proofs.remaining.delete_groups.Tie as tie
-use Rattle.deleting.proofs.remaining.delete_groups.Reads as reads
-use Rattle.deleting.proofs.remaining.delete_groups.Lts as lts
-use Rattle.deleting.proofs.remaining.remove_groups.Reads as remove-groups-reads
-use Rattle.order.proofs.keys.group_count.Reads as group-count-reads
 
 -- there are no more groups than keys
 few : (c : tie.After-group-count) → c .group-count .result ≤ length (c .before .before .before .args .named .key)
@@ -24,7 +20,6 @@ few c =
     let h = few-groups (c .before .before .before .args .named) n in
     omega (arith, n, h, c .group-count .ensures)
 
--- src/remaining.rt:51:9
 returns : tie.Need-returns
 returns c =
     let a = c .before .args in
@@ -34,32 +29,30 @@ returns c =
       rows = sym (lay-plain groupOf groupRow (a .groups .now) (a .count) (p .0) (p .1));
     })
 
--- src/remaining.rt:54:9
 group-count-requires : tie.Need-group-count-requires
 group-count-requires c κs = search needs
 
--- src/remaining.rt:55:34
 array-share-prefix-key : tie.Need-array-share-prefix-key
 array-share-prefix-key c = few (c .before)
 
--- src/remaining.rt:55:34
 slice-aggregate-remove-groups : tie.Need-slice-aggregate-remove-groups
-slice-aggregate-remove-groups c = sym (length-take-le (c .before .before .group-count .result) (c .before .before .before .before .before .args .named .key) (few (c .before .before)))
+slice-aggregate-remove-groups c =
+    let end = c .before .before in
+    sym (length-take-le (end .group-count .result) (end .before .before .before .args .named .key) (few end))
 
--- src/remaining.rt:55:5
 remove-groups-requires : tie.Need-remove-groups-requires
 remove-groups-requires c κs = search needs
 
--- src/remaining.rt:40:1
 same-length : tie.Need-same-length
 same-length c = search needs
 
--- src/remaining.rt:40:1
 returns-2 : tie.Need-returns-2
 returns-2 c =
-    let a = c .before .before .before .before .before .before .before .args in
-    let g = front (a .named .count) (c .before .before .before .before .group-count .result) (a .named .key) (c .before .before .before .before .group-count .ensures) in
-    rw (not-false (a .remove) (c .before .before .before .before .before .before .if1 .left)) (rw g at (c .before .remove-groups .ensures))
+    let end = c .before .before .before .before in
+    let past = end .before .before in
+    let a = past .before .args in
+    let g = front (a .named .count) (end .group-count .result) (a .named .key) (end .group-count .ensures) in
+    rw (not-false (a .remove) (past .if1 .left)) (rw g at (c .before .remove-groups .ensures))
 
 pub delete-groups-spec : {M : Type 1} → statement M
 delete-groups-spec =

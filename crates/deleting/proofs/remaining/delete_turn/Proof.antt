@@ -1,15 +1,10 @@
 -- `deleting::delete_turn` meets its contract.
-use borrow.Author.Needs.{needs}
 use Rattle.deleting.proofs.remaining.delete_turn.Statement.{statement}
 use Rattle.deleting.proofs.remaining.delete_turn.Tie as tie
-use Rattle.deleting.proofs.remaining.delete_turn.Reads as reads
-use Rattle.deleting.proofs.remaining.delete_turn.Lts as lts
 
--- src/remaining.rt:61:9
 returns : tie.Need-returns
 returns c = rw (c .if1 .taken)
 
--- src/remaining.rt:56:1
 returns-2 : tie.Need-returns-2
 returns-2 c = rw (c .if1 .left)
 

@@ -1,4 +1,4 @@
--- `text::rows::kind_letter` meets its contract: an assignment, or not.
+-- `text::listed::kind_letter` meets its contract: an assignment, or not.
 use borrow.Author.Tests.{eq-eqb, ne-eqb}
 use Rattle.text.proofs.listed.kind_letter.Statement.{statement}
 use Rattle.text.proofs.listed.kind_letter.Tie as tie

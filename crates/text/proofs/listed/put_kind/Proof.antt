@@ -1,4 +1,4 @@
--- `text::rows::put_kind` meets its contract: a space, and the letter.
+-- `text::listed::put_kind` meets its contract: a space, and the letter.
 use native.Mathlib.Numerals.{add-one}
 use native.Mathlib.Omega.{arith}
 use lib.ListN.{length-set}

@@ -1,4 +1,4 @@
--- `text::rows::put_member` meets its contract: its pieces are put one behind the other.
+-- `text::listed::put_member` meets its contract: its pieces are put one behind the other.
 use Rattle.text.proofs.Puts.{put-then}
 use native.Mathlib.Omega.{arith}
 use Rattle.text.proofs.listed.put_member.Statement.{statement}

@@ -1,4 +1,4 @@
--- `text::rows::put_members` meets its contract: A, and a walk over the rows.
+-- `text::listed::put_members` meets its contract: A, and a walk over the rows.
 use mathlib.Core.Path.{refl}
 use Prim.Native.Nat.{_-_}
 use mathlib.Core.List.{[]}
