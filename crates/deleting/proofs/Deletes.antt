@@ -33,6 +33,7 @@ use Rattle.store.specs.Storage.{Rows, Contents, contents, groupRow, pairRow, pl
 use Rattle.store.specs.Form.{Sound}
 use Rattle.store.proofs.FormLaws.{law-form}
 use Rattle.replies.specs.Orders.{replyOf, verdict}
+use Rattle.replies.specs.declared.Reply.{Reply}
 use Rattle.replies.specs.declared.Reply.the-variants.{Done, Refused}
 use Rattle.replies.proofs.Orders.{first-none, first-some, reply-none, reply-some, alter-same, tests-pass}
 use Rattle.turning.specs.Turns.{turnOf}
@@ -80,8 +81,8 @@ module _ (c : Contents) (w : Sound c) where
     pub form-refused : (r : Refusal) → Refused r ≡ replyOf (first forms) → Refused r ≡ replyOf (verdict c step)
     form-refused r e = rw (w .form) (ap replyOf (sym (ap first delete-tests ∙ first-some forms stands r (reply-some (first forms) r e))))
 
-    pub stand-replies : Done ≡ replyOf (first forms) → replyOf (first stands) ≡ replyOf (verdict c step)
-    stand-replies e = rw (w .form) (ap replyOf (sym (ap first delete-tests ∙ first-none forms stands (reply-none (first forms) e))))
+    pub stand-replies : (r : Reply) → Done ≡ replyOf (first forms) → r ≡ replyOf (first stands) → r ≡ replyOf (verdict c step)
+    stand-replies r e q = q ∙ rw (w .form) (ap replyOf (sym (ap first delete-tests ∙ first-none forms stands (reply-none (first forms) e))))
 
     -- a delete that is taken has something to do, and room for its orders
     pub delete-passed : refused placing (ledgerOf c) step ≡ none

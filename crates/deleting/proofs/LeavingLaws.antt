@@ -5,13 +5,11 @@ use mathlib.Core.List.{List, [], _∷_, _++_, map, append-nil}
 use Prim.Native.Nat.{ℕ, _+_, _≤_, _<_}
 use native.Mathlib.Numerals.{add-one}
 use native.Mathlib.Omega.{arith}
-use borrow.Author.Tests.{le-leb}
-use lib.ListN.{length, getD, set, take, drop, length-append, length-map}
-use lib.Seq.{paste, take-suc, take-at}
+use lib.ListN.{length, getD, set, take, length-append, length-map}
+use lib.Seq.{paste, take-suc}
 use Rattle.rules.specs.Lists.{keep}
 use Rattle.rules.specs.Mark.{Mark}
 use Rattle.rules.specs.Ledger.{Pair}
-use Rattle.rules.specs.Listing.{listedIn}
 use Rattle.rules.specs.Refusals.{maxPairs}
 use Rattle.rules.specs.Outgoing.{Outgoing, deassign, orders}
 use Rattle.rules.proofs.Walks.{keep-append}
@@ -19,8 +17,7 @@ use Rattle.store.specs.Lists.{onto}
 use Rattle.store.specs.Storage.{Rows}
 use Rattle.store.proofs.Rows.{onto-length, onto-more}
 use Rattle.replies.specs.Sending.{orderRow}
-use Rattle.gathering.specs.Rows.{everyone, fitting}
-use Rattle.gathering.proofs.Members.{length-gathered, gathered-short, length-radios}
+use Rattle.gathering.proofs.Members.{taken-front}
 use Rattle.sending.specs.Pushed.{pushed}
 use Rattle.sending.proofs.Pushing.{pushed-fits, length-rows, join-turn, join-front, send-turn}
 use Rattle.deleting.specs.Leaving.{leaving, leavingOrders}
@@ -42,21 +39,9 @@ module _ (p : ℕ → Bool) (xs out out₀ : List ℕ) (i k : ℕ) (h : i < leng
   pub kept-out : p (getD xs i 0) ≡ false → (k ≡ length (keep p (take (i + 1) xs))) × (out ≡ onto (keep p (take (i + 1) xs)) out₀)
   kept-out q = rw (kept-turn false q, append-nil) (n, e)
 
--- what was laid at the front, taken again
-taken-front : (l room room′ : List ℕ) (n : ℕ) → n ≡ length l → room′ ≡ onto l room → take n room′ ≡ l
-taken-front l room room′ n e d = rw d (take-at l (drop (length l) room) n (sym e))
-
+-- a room in whose front radios were laid is as long as it was
 pub room-stays : (l room room′ : List ℕ) (n : ℕ) → n ≡ length l → room′ ≡ onto l room → n ≤ maxPairs → length room ≡ maxPairs → length room′ ≡ maxPairs
 room-stays l room room′ n e d h r = rw d (onto-length l room (omega (arith, e, h, r)) ∙ r)
-
--- ---- all radios of a group ----
-
-module _ (pairs : List (Pair × Mark)) (g : ℕ) (few : length pairs ≤ maxPairs) where
-  pub everyone-few : length (everyone pairs g) ≤ maxPairs
-  everyone-few = omega (arith, length-radios (listedIn g pairs), length-gathered g pairs, gathered-short g pairs)
-
-  pub everyone-fits : (room : List ℕ) → maxPairs ≤ length room → fitting pairs room (everyone pairs g) ≡ everyone pairs g
-  everyone-fits room h = rw (le-leb (length pairs) maxPairs few, le-leb (length (everyone pairs g)) (length room) (omega (arith, everyone-few)))
 
 -- ---- orders, group by group ----
 

@@ -1,7 +1,7 @@
--- Laws of the words of a line.
+-- Laws of the words of a line, samples, and that each contract allows one outcome.
 pub mod Words
 pub mod Values
 pub mod Lists
-pub mod Nowhere
+pub mod Laws
 pub mod Samples
 pub mod Unique

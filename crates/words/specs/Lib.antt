@@ -1,3 +1,4 @@
 -- The definitions that the contracts of `words` cite.
+pub mod Character
 pub mod Words
 pub mod Series

@@ -7,6 +7,7 @@ use lib.ListN.{length, replicate}
 use Rattle.order.specs.declared.Identity.{Identity}
 use Rattle.words.specs.declared.TakenIdentity.{TakenIdentity}
 use Rattle.words.specs.declared.TakenList.{TakenList}
+use Rattle.words.specs.Character.{blank, comma, hyphen, dot, colon}
 use Rattle.words.specs.Words.{nowhere, standsAt, markAt, digitsAt, wordAt}
 
 -- the identity that a form and two values make: the first is the SNA in form 0, else the SSI
@@ -21,15 +22,16 @@ nobody = identityWith 0 0 0
 unfoldable pub namedAt : List ℕ → ℕ → TakenIdentity
 namedAt line at =
     let form = digitsAt line at 1 in
-    let value = digitsAt line (markAt line (form .next) 46) 8 in
-    let extension = digitsAt line (markAt line (value .next) 46) 8 in
+    let value = digitsAt line (markAt line (form .next) dot) 8 in
+    let extension = digitsAt line (markAt line (value .next) dot) 8 in
     record { identity = identityWith (form .value) (value .value) (extension .value); next = extension .next }
 
 -- where the next identity starts of a list that has so many, or NOWHERE where the list has ended:
 -- the first starts at once, unless the line ends there or a blank stands there; a later one behind a comma
 unfoldable pub itemAt : List ℕ → ℕ → ℕ → ℕ
-itemAt line at count = cond (eqb count 0) (cond (ltb at (length line) && not (standsAt line at 32)) at nowhere) (markAt line at 44)
+itemAt line at count = cond (eqb count 0) (cond (ltb at (length line) && not (standsAt line at blank)) at nowhere) (markAt line at comma)
 
+-- a list that is given
 abbrev pub listed : ℕ → List Identity → ℕ → TakenList
 listed code identity next = record { list = record { given = true; numbers = record { code = code; identity = identity } }; next = next }
 
@@ -44,7 +46,7 @@ listFrom (suc places) code line taken at =
 
 -- a blank and a LIST
 unfoldable pub seriesAt : List ℕ → ℕ → TakenList
-seriesAt line at = let code = wordAt line at 1 in listFrom 10 (code .value) line [] (markAt line (code .next) 58)
+seriesAt line at = let code = wordAt line at 1 in listFrom 10 (code .value) line [] (markAt line (code .next) colon)
 
 -- no list
 abbrev pub noList : ℕ → TakenList
@@ -52,4 +54,4 @@ noList next = record { list = record { given = false; numbers = record { code = 
 
 -- a blank and a LIST or a hyphen
 unfoldable pub seriesOrNoneAt : List ℕ → ℕ → TakenList
-seriesOrNoneAt line at = let from = markAt line at 32 in cond (standsAt line from 45) (noList (markAt line from 45)) (seriesAt line at)
+seriesOrNoneAt line at = let from = markAt line at blank in cond (standsAt line from hyphen) (noList (markAt line from hyphen)) (seriesAt line at)

@@ -7,8 +7,9 @@ use lib.ListN.{length, getD}
 use lib.Seq.{slice}
 use Rattle.house.specs.Hex.{digitValue, allDigits}
 use Rattle.words.specs.declared.Taken.{Taken}
+use Rattle.words.specs.Character.{blank, slash, letterN, letterY}
 
--- past the end of every line, so that no reader comes back from it
+-- a place where no line has a character, so that no reader comes back from it
 abbrev pub nowhere : ℕ
 nowhere = 2 ^ 64 - 1
 
@@ -29,7 +30,7 @@ abbrev pub hexadecimal : ℕ → List ℕ → ℕ
 hexadecimal high [] = high
 hexadecimal high (digit ∷ digits) = hexadecimal (high * 16 + digitValue digit) digits
 
--- the word that a text makes, behind digits that make `high`
+-- the word that a text makes, behind digits that make `high`: bad unless it is digits alone
 abbrev pub wordOf : ℕ → List ℕ → ℕ → Taken
 wordOf high text next = cond (allDigits text) (record { value = hexadecimal high text; next = next }) bad
 
@@ -43,13 +44,13 @@ digitsAt line at width = cond (enoughAt line at width) (wordOf 0 (slice at (at +
 
 -- a blank and so many digits
 abbrev pub wordAt : List ℕ → ℕ → ℕ → Taken
-wordAt line at width = digitsAt line (markAt line at 32) width
+wordAt line at width = digitsAt line (markAt line at blank) width
 
 -- a blank and a NUMBER: 8 digits of SSI, '/', 8 of extension, which plays no part
 unfoldable pub numberAt : List ℕ → ℕ → Taken
 numberAt line at =
     let ssi = wordAt line at 8 in
-    let extension = digitsAt line (markAt line (ssi .next) 47) 8 in
+    let extension = digitsAt line (markAt line (ssi .next) slash) 8 in
     record { value = ssi .value; next = extension .next }
 
 -- a blank and a ROOM: 4 digits, at most 0800
@@ -59,5 +60,5 @@ roomAt line at = let size = wordAt line at 4 in cond (leb (size .value) 2048) si
 -- a blank and Y, which is 1, or N, which is 0
 unfoldable pub choiceAt : List ℕ → ℕ → Taken
 choiceAt line at =
-    let from = markAt line at 32 in
-    cond (standsAt line from 89) (record { value = 1; next = markAt line from 89 }) (record { value = 0; next = markAt line from 78 })
+    let from = markAt line at blank in
+    cond (standsAt line from letterY) (record { value = 1; next = markAt line from letterY }) (record { value = 0; next = markAt line from letterN })

@@ -3,7 +3,7 @@ use mathlib.Core.Path.{sym}
 use native.Mathlib.Omega.{arith}
 use lib.Seq.{length-take-le}
 use borrow.Author.Needs.{needs}
-use Rattle.words.proofs.Nowhere.{room-most}
+use Rattle.words.proofs.Laws.{room-most}
 use Rattle.desk.proofs.orders.list.Statement.{statement}
 use Rattle.desk.proofs.orders.list.Tie as tie
 

@@ -12,8 +12,8 @@ Inv-loop text bytes₀ count i₀ bytes i = (length bytes ≡ length bytes₀) �
 abbrev μ-loop : tie.MeasureT-loop
 μ-loop text bytes₀ count i₀ bytes i = count - i
 
-least-requires : tie.Need-least-requires Inv-loop μ-loop
-least-requires c κs = search needs
+lesser-requires : tie.Need-lesser-requires Inv-loop μ-loop
+lesser-requires c κs = search needs
 
 loop-holds : tie.Need-loop-holds Inv-loop μ-loop
 loop-holds c = search needs
@@ -51,7 +51,7 @@ pack-spec =
     (tie.spec
     Inv-loop
     μ-loop
-    least-requires
+    lesser-requires
     loop-holds
     mul-digits
     digits-requires

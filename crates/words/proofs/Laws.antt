@@ -1,4 +1,4 @@
--- From NOWHERE no reader comes back; and a room is never more than 2,048 places.
+-- What a reader of the definitions may want: a room is never more than 2,048 places, and from NOWHERE no reader comes back.
 use mathlib.Core.Path.{_≡_, refl}
 use mathlib.Core.Bool.{Bool, true, false, cond}
 use mathlib.Core.List.{List}
@@ -10,6 +10,7 @@ use lib.Seq.{slice, slice-empty}
 use borrow.Author.Tests.{le-ltb, leb-true}
 use Rattle.order.specs.declared.Identity.{Identity}
 use Rattle.words.specs.declared.Taken.{Taken}
+use Rattle.words.specs.Character.{blank, comma, hyphen, slash, colon, letterN, letterY}
 use Rattle.words.specs.Words.{nowhere, standsAt, markAt, bad, wordOf, enoughAt, digitsAt, wordAt, numberAt, roomAt, choiceAt}
 use Rattle.words.specs.Series.{itemAt, listFrom, seriesAt, seriesOrNoneAt}
 use Rattle.words.proofs.Words.{enough-within}
@@ -38,6 +39,7 @@ digits-past line at width past lost = go (enoughAt line at width) refl
         rw (none, slice-empty at line) lost
     go false e = refl
 
+-- any line: its length has 64 bits
 module _ (line : List ℕ) (any : length line ≤ nowhere) where
   stands-nowhere : (character : ℕ) → standsAt line nowhere character ≡ false
   unfolding standsAt
@@ -51,11 +53,11 @@ module _ (line : List ℕ) (any : length line ≤ nowhere) where
   digits-nowhere width = digits-past line nowhere width any refl
 
   pub word-nowhere : (width : ℕ) → (wordAt line nowhere width) .next ≡ nowhere
-  word-nowhere width = rw (mark-nowhere 32) (digits-nowhere width)
+  word-nowhere width = rw (mark-nowhere blank) (digits-nowhere width)
 
   pub number-nowhere : (numberAt line nowhere) .next ≡ nowhere
   unfolding numberAt
-  number-nowhere = rw (word-nowhere 8, mark-nowhere 47) (digits-nowhere 8)
+  number-nowhere = rw (word-nowhere 8, mark-nowhere slash) (digits-nowhere 8)
 
   pub room-nowhere : (roomAt line nowhere) .next ≡ nowhere
   unfolding roomAt
@@ -63,11 +65,11 @@ module _ (line : List ℕ) (any : length line ≤ nowhere) where
 
   pub choice-nowhere : (choiceAt line nowhere) .next ≡ nowhere
   unfolding choiceAt
-  choice-nowhere = rw (mark-nowhere 32, stands-nowhere 89) (mark-nowhere 78)
+  choice-nowhere = rw (mark-nowhere blank, stands-nowhere letterY) (mark-nowhere letterN)
 
   item-nowhere : (count : ℕ) → itemAt line nowhere count ≡ nowhere
   unfolding itemAt
-  item-nowhere count = rw (le-ltb nowhere (length line) any, mark-nowhere 44) (either (eqb count 0))
+  item-nowhere count = rw (le-ltb nowhere (length line) any, mark-nowhere comma) (either (eqb count 0))
     where
       either : (t : Bool) → cond t nowhere nowhere ≡ nowhere
       either true = refl
@@ -80,8 +82,8 @@ module _ (line : List ℕ) (any : length line ≤ nowhere) where
 
   pub series-nowhere : (seriesAt line nowhere) .next ≡ nowhere
   unfolding seriesAt
-  series-nowhere = rw (word-nowhere 1, mark-nowhere 58) (list-nowhere 10 _ _)
+  series-nowhere = rw (word-nowhere 1, mark-nowhere colon) (list-nowhere 10 _ _)
 
   pub series-or-none-nowhere : (seriesOrNoneAt line nowhere) .next ≡ nowhere
   unfolding seriesOrNoneAt
-  series-or-none-nowhere = rw (mark-nowhere 32, stands-nowhere 45) series-nowhere
+  series-or-none-nowhere = rw (mark-nowhere blank, stands-nowhere hyphen) series-nowhere
