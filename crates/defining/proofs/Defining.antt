@@ -1,8 +1,8 @@
 -- Laws of a define: its tests are the law's, and its walks leave and send what the law says.
 use mathlib.Core.Path.{_≡_, refl, sym, ap, _∙_}
-use mathlib.Core.Bool.{Bool, true, false, cond, not, _||_}
+use mathlib.Core.Bool.{Bool, false, _||_}
 use mathlib.Core.List.{List, [], _∷_, _++_}
-use mathlib.Core.Option.{Option, none, some}
+use mathlib.Core.Option.{none}
 use Prim.Native.Nat.{ℕ, _≤_}
 use native.Mathlib.Omega.{arith}
 use lib.Dec.{eqb, ltb}
@@ -11,16 +11,16 @@ use borrow.Author.Tests.{ltb-false}
 use Rattle.refusal.specs.declared.Refusal.{Refusal}
 use Rattle.refusal.specs.declared.Refusal.the-variants.{BadOrder, FormNotTaken, NotOwner, Full, NoRoom}
 use Rattle.layout.specs.Frame.{places}
-use Rattle.rules.specs.Lists.{any, present, once}
+use Rattle.rules.specs.Lists.{any}
 use Rattle.rules.specs.Entries.{find}
 use Rattle.rules.specs.Arrival.{put}
-use Rattle.rules.specs.Number.{Numbers, key, numbersIn, wide, badList, untaken}
+use Rattle.rules.specs.Number.{key, wide, badList}
 use Rattle.rules.specs.Mark.{begun}
 use Rattle.rules.specs.Parameters.{badName, badParameters}
 use Rattle.rules.specs.Order.{Define, define, defineGroups, defineRadios, defineOwners}
 use Rattle.rules.specs.Effect.{Effect, effect}
 use Rattle.rules.specs.Outgoing.{assign}
-use Rattle.rules.specs.Recorded.{saysYes, optional, optionalName, parametersIn, callRelated, acknowledgementRequested, defineOf}
+use Rattle.rules.specs.Recorded.{optional, optionalName, parametersIn, acknowledgementRequested, defineOf}
 use Rattle.rules.specs.Refusals.{first, tests, refuses, maxGroups, maxPairs}
 use Rattle.rules.specs.Ledger.{Group, Ledger, view}
 use Rattle.rules.specs.Steps.{given, groupAfter, tally, apply, refused}
@@ -34,16 +34,10 @@ use Rattle.rules.proofs.Effects.{Standing}
 use Rattle.rules.proofs.Written.{written-form}
 use Rattle.rules.proofs.Sound.{bad-order}
 use Rattle.rules.proofs.Steps.{define-lists, define-groups-total, define-pairs-total}
-use Rattle.order.specs.Keys.{ownersAs, ownersHeld}
-use Rattle.order.specs.Lists.{numbersOf, listOf}
-use Rattle.order.specs.Recorded.{groupList, ownerList, radioList}
 use Rattle.order.specs.Row.{orderRowOf}
 use Rattle.order.specs.Steps.{defineStep}
 use Rattle.order.specs.declared.Itsi.{Itsi}
-use Rattle.order.specs.declared.Owners.{Owners}
 use Rattle.order.specs.declared.RadioKey.{RadioKey}
-use Rattle.order.proofs.KeyLaws.{owners-held}
-use Rattle.order.proofs.Recorded.{lists-said, owners-said, radios-said}
 use Rattle.store.specs.Lists.{onto, Fills}
 use Rattle.store.specs.Storage.{Rows, Contents, contents, placing, groupOf, groupRow, pairRow, ledgerOf, laid}
 use Rattle.store.specs.Form.{Sound}
@@ -63,6 +57,10 @@ use Rattle.defining.proofs.OrderRows.{order-group}
 
 standing : (c : Contents) → Sound c → Standing placing (ledgerOf c)
 standing c w = written-form placing (ledgerOf c) (law-form c w) .standing
+
+-- a refusal is no acceptance
+pub not-done : {P : Type 0} (r : Refusal) → Refused r ≡ Done → P
+not-done r e = let z : _≡_ {A = ℕ} 0 1 = cc in absurd (omega arith)
 
 -- ---- its tests are those of form, then those of what stands ----
 
@@ -122,7 +120,7 @@ module _ (c : Contents) (w : Sound c) (o : Define) (room : ℕ) where
   does = effect (view (ledgerOf c)) (define o room)
 
   abbrev pub left : Ledger
-  left = apply placing (ledgerOf c) (effect (view (ledgerOf c)) (define o room))
+  left = apply placing (ledgerOf c) does
 
   pub made-groups : makeGroups (does .keeps) (given does) (defineGroups o) (ledgerOf c .groups) ≡ left .groups
   made-groups =
@@ -134,11 +132,13 @@ module _ (c : Contents) (w : Sound c) (o : Define) (room : ℕ) where
       set-product (does .begins .state) (defineRadios o) (defineGroups o) (ledgerOf c .pairs)
       ∙ sym (ap (λ (a : Ledger). a .pairs) (define-lists placing by-arrival (ledgerOf c) (standing c w) o room))
 
+-- the two counts written at the head
 set-both : (head : List ℕ) (n m : ℕ) → 2 ≤ length head → set (set head 0 n) 1 m ≡ onto (n ∷ m ∷ []) head
 set-both [] n m h = absurd (omega arith)
 set-both (a ∷ []) n m h = absurd (omega arith)
 set-both (a ∷ b ∷ l) n m h = refl
 
+-- what the walks leave is the ledger, laid over the contents
 pub all-laid : (c : Contents) → Sound c → (l : Ledger) (n m : ℕ) (groups pairs : Rows)
     → Fills groupRow (l .groups) (c .groups) groups n → Fills pairRow (l .pairs) (c .pairs) pairs m
     → contents (set (set (c .head) 0 n) 1 m) groups pairs ≡ laid l c

@@ -49,7 +49,7 @@ few-letters places = go (optional places letterCount)
     go true = omega (arith, length-take (valueAt places 96) (take 16 (drop letters places)), length-take 16 (drop letters places))
     go false = omega arith
 
-pub order-row : (places os : List ℕ) → length os ≤ 11 → orderRowOf places os ≡ groupRow (0, record { owners = os; parameters = parametersIn places })
+order-row : (places os : List ℕ) → length os ≤ 11 → orderRowOf places os ≡ groupRow (0, record { owners = os; parameters = parametersIn places })
 unfolding orderRowOf groupRow parametersIn
 order-row places os h =
     let l = lettersOf (optionalName places) in

@@ -1,5 +1,5 @@
 -- `defining::parts_of` meets its contract: the lists read are those of the order.
-use mathlib.Core.Path.{_≡_, refl, sym, ap, _∙_}
+use mathlib.Core.Path.{_≡_, refl, ap, _∙_}
 use mathlib.Core.Bool.{Bool, true, false, cond, not, _||_}
 use mathlib.Core.List.{_∷_}
 use mathlib.Core.Option.{Option, none, some}
@@ -53,11 +53,14 @@ returns c =
     let gs = lists-said (a .asker .0) (a .place) in
     let os = owners-said (a .asker .0) (a .place) in
     let rs = radios-said (a .asker .0) (a .place) in
-    let named = c .before .before .before .before .before .before .groups-in .ensures ∙ ap (λ (d : DefineLists). groupsAs (numbersIn (listOf (d .groups)))) lists
+    let named = c .before .before .before .before .before .before .groups-in .ensures
+    ∙ ap (λ (d : DefineLists). groupsAs (numbersIn (listOf (d .groups)))) lists
     ∙ ap (λ (n : Option Numbers). groupsAs (numbersIn n)) gs in
-    let radios = c .before .before .before .before .before .radios-in .ensures ∙ ap (λ (d : DefineLists). radiosAs (numbersIn (listOf (d .radios)))) lists
+    let radios = c .before .before .before .before .before .radios-in .ensures
+    ∙ ap (λ (d : DefineLists). radiosAs (numbersIn (listOf (d .radios)))) lists
     ∙ ap (λ (n : Option Numbers). radiosAs (numbersIn n)) rs in
-    let owners = c .before .before .before .before .owners-in .ensures ∙ ap (λ (d : DefineLists). ownersAs (once (key (a .asker .0) ∷ numbersIn (listOf (d .owners))))) lists
+    let owners = c .before .before .before .before .owners-in .ensures
+    ∙ ap (λ (d : DefineLists). ownersAs (once (key (a .asker .0) ∷ numbersIn (listOf (d .owners))))) lists
     ∙ ap (λ (n : Option Numbers). ownersAs (once (key (a .asker .0) ∷ numbersIn n))) os in
     let keeps = ap (λ (d : DefineLists). not (d .owners .given)) lists ∙ ap not (given-present (ownerList (a .place)))
     ∙ ap (λ (n : Option Numbers). not (present n)) os in
