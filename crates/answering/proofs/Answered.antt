@@ -8,7 +8,6 @@ use native.Mathlib.Omega.{arith}
 use lib.Dec.{eqb}
 use lib.ListN.{length, set}
 use lib.Seq.{set-getD}
-use Rattle.refusal.specs.declared.Refusal.{Refusal}
 use Rattle.rules.specs.Entries.{alter}
 use Rattle.rules.specs.Mark.{Mark, fresh, confirmed, ticked, answered, open?}
 use Rattle.rules.specs.Order.{tick}
@@ -24,8 +23,7 @@ use Rattle.store.specs.Places.{foundOf}
 use Rattle.store.specs.Storage.{Contents, contents, groupRow, groupsOf, pairRow, pairsOf, groupCount, pairCount, placing, ledgerOf, laid}
 use Rattle.store.specs.Form.{Sound}
 use Rattle.store.proofs.FormLaws.{Room}
-use Rattle.replies.specs.declared.Reply.the-variants.{Done, Refused}
-use Rattle.replies.proofs.Orders.{alter-same, alter-length, head-counts, count-groups, count-pairs, groups-stay}
+use Rattle.replies.proofs.Orders.{alter-same, alter-length, head-counts, set-both, count-groups, count-pairs, groups-stay}
 use Rattle.turning.specs.Turns.{staysOf, markOf, turnOf}
 use Rattle.turning.specs.declared.Turn.{Turn}
 use Rattle.turning.specs.declared.Turn.the-variants.{Confirm, Leave}
@@ -70,19 +68,10 @@ answered-turn g r result k m = go (eqb result 1)
 
 -- no group and no pair is left
 pub empty-laid : (c : Contents) → Room c → contents (set (set (c .head) 0 0) 1 0) (c .groups) (c .pairs) ≡ laid empty c
-empty-laid c r = ap (λ (z : List ℕ). contents z (c .groups) (c .pairs)) (go (c .head) (r .head))
-  where
-    go : (l : List ℕ) → 2 ≤ length l → set (set l 0 0) 1 0 ≡ onto (0 ∷ 0 ∷ []) l
-    go [] h = absurd (omega arith)
-    go (a ∷ []) h = absurd (omega arith)
-    go (a ∷ b ∷ l) h = refl
+empty-laid c r = ap (λ (z : List ℕ). contents z (c .groups) (c .pairs)) (set-both (c .head) 0 0 (r .head))
 
 pub answered-laid : (c : Contents) → Sound c → (radio : Itsi) (group : Gtsi) (result : ℕ) (turn : Turn) (n : ℕ) (rows : List (List ℕ)) → turn ≡ answerTurn result → n ≡ length (alter (turnOf turn (group .0 ∷ []) (radio .0 ∷ [])) (pairsOf (pairCount c) (c .pairs))) → rows ≡ onto (map pairRow (alter (turnOf turn (group .0 ∷ []) (radio .0 ∷ [])) (pairsOf (pairCount c) (c .pairs)))) (c .pairs) → contents (set (c .head) 1 n) (c .groups) rows ≡ laid (apply placing (ledgerOf c) (effect (view (ledgerOf c)) (answerStep radio group result))) c
 answered-laid c w radio group result turn n rows t e d =
     let turns : ℕ → ℕ → Mark → Option Mark = λ g r m. cond (eqb g (group .0) && eqb r (radio .0)) (answered result) (some m) in
     let q = alter-same (turnOf turn (group .0 ∷ []) (radio .0 ∷ [])) (λ (k : Pair). turns (k .0) (k .1)) (λ k m. rw t (answered-turn (group .0) (radio .0) result k m)) (pairsOf (pairCount c) (c .pairs)) in
     turned-laid c w turns n rows (e ∙ ap length q) (d ∙ ap (λ (z : List (Pair × Mark)). onto (map pairRow z) (c .pairs)) q)
-
--- a refusal is no acceptance
-pub not-done : {A : Type 0} (r : Refusal) → Refused r ≡ Done → A
-not-done r e = let z : _≡_ {A = ℕ} 0 1 = cc in absurd (omega arith)

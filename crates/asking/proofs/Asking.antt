@@ -24,9 +24,6 @@ use Rattle.replies.specs.declared.Reply.{Reply}
 use Rattle.replies.specs.declared.Reply.the-variants.{Done, Refused}
 use Rattle.replies.proofs.Orders.{reply-none}
 
-pub not-done : {P : Type 0} (r : Refusal) → Refused r ≡ Done → P
-not-done r e = let z : _≡_ {A = ℕ} 0 1 = cc in absurd (omega arith)
-
 -- the reply by whose the group is
 abbrev pub ownedReply : Owned → Reply
 ownedReply Absent = Refused NoSuchGroup

@@ -24,7 +24,7 @@ use Rattle.store.specs.Storage.{Rows, Contents, placing, ledgerOf}
 use Rattle.store.specs.Form.{isWritten, Sound}
 use Rattle.store.proofs.FormLaws.{law-form}
 use Rattle.replies.specs.Orders.{JudgesAsker}
-use Rattle.replies.specs.Listing.{entryRow, membersOf, Lists}
+use Rattle.replies.specs.Listing.{entryRow, membersOf, Enumerates}
 use Rattle.replies.specs.declared.Reply.{Reply}
 use Rattle.replies.specs.declared.Reply.the-variants.{Done, Refused}
 use Rattle.replies.specs.declared.Members.the-variants as members
@@ -38,7 +38,7 @@ module _ (c : Contents) (asker : Itsi) (group : Gtsi) (room : Rows) where
   last = (NoRoom, ltb (length room) (length (members (ledgerOf c) (group .0)))) ∷ []
 
   pub list-refused : {reply : Reply} → JudgesAsker c asker group reply → (r : Refusal) → reply ≡ Refused r
-      → Lists c asker group room room (members.Refused r)
+      → Enumerates c asker group room room (members.Refused r)
   list-refused j r d = let t = go (isWritten c) (reply-some _ r (sym d ∙ j .judges)) in record { replies = t .0; lists = rw (t .1) }
     where
       go : (b : Bool) → cond b (showRefusal (view (ledgerOf c)) (asker .0) (group .0)) (some NotWritten) ≡ some r
@@ -66,13 +66,13 @@ module _ (c : Contents) (asker : Itsi) (group : Gtsi) (room : Rows) where
         first-none (askTests (view (ledgerOf c)) (asker .0) (group .0)) last (asked-none c asker group j done)
         ∙ ap (λ (z : ℕ). cond (ltb (length room) z) (some NoRoom) none) (sym (m ∙ ap length listed ∙ length-map (members (ledgerOf c) (group .0)) _))
 
-    pub list-full : length room < n → Lists c asker group room room′ (members.Refused NoRoom)
+    pub list-full : length room < n → Enumerates c asker group room room′ (members.Refused NoRoom)
     list-full h = let t = lt-ltb (length room) n h in record {
       replies = rw (w .form, refusal, t);
       lists = f ∙ rw (w .form, refusal, t, fits-not (ledgerOf c .pairs) room (listedIn g (ledgerOf c .pairs)) (rw m at h));
     }
 
-    pub list-taken : n ≤ length room → Lists c asker group room room′ (members.Radios n)
+    pub list-taken : n ≤ length room → Enumerates c asker group room room′ (members.Radios n)
     list-taken h = let t = le-ltb (length room) n h in record {
       replies = rw (w .form, refusal, t) (ap members.Radios (m ∙ ap length listed));
       lists = f ∙ rw (w .form, refusal, t, fits (ledgerOf c .pairs) room (listedIn g (ledgerOf c .pairs)) (form .few-pairs) (rw m at h), listed);

@@ -25,7 +25,7 @@ use store::named::owned_by;
 use store::places::group_place;
 ghost use mathlib.Core.Path.{_≡_};
 ghost use Rattle.store.specs.Storage.{contents};
-ghost use Rattle.replies.specs.Listing.{Lists};
+ghost use Rattle.replies.specs.Listing.{Enumerates};
 ghost use Rattle.replies.specs.Orders.{JudgesAsker};
 ghost use Rattle.replies.specs.Showing.{showOn, shownOf};
 
@@ -63,7 +63,7 @@ pub fn list(
     group: Gtsi,
     out: &mut [[u64; ENTRY_WORDS]],
 ) -> Members
-    ensures { λ r. ⌜ Lists (contents (now (head .entry)) (now (groups .entry)) (now (pairs .entry))) asker group
+    ensures { λ r. ⌜ Enumerates (contents (now (head .entry)) (now (groups .entry)) (now (pairs .entry))) asker group
         (now (out .entry)) (now (out .exit)) r ⌝ }
 {
     let fault = ask_fault(head, groups, pairs, asker, group);

@@ -46,7 +46,7 @@ use Rattle.store.specs.declared.Standing.the-variants.{Taken}
 use Rattle.store.proofs.FormLaws.{law-form}
 use Rattle.replies.specs.Orders.{replyOf, verdict}
 use Rattle.replies.specs.declared.Reply.the-variants.{Done, Refused}
-use Rattle.replies.proofs.Orders.{first-none, first-some, reply-none, reply-some, tests-pass}
+use Rattle.replies.proofs.Orders.{set-both, first-none, first-some, reply-none, reply-some, tests-pass}
 use Rattle.defining.specs.Parts.{anyUntaken}
 use Rattle.defining.specs.Groups.{makeGroups}
 use Rattle.defining.specs.Pairs.{setAll}
@@ -57,10 +57,6 @@ use Rattle.defining.proofs.OrderRows.{order-group}
 
 standing : (c : Contents) → Sound c → Standing placing (ledgerOf c)
 standing c w = written-form placing (ledgerOf c) (law-form c w) .standing
-
--- a refusal is no acceptance
-pub not-done : {P : Type 0} (r : Refusal) → Refused r ≡ Done → P
-not-done r e = let z : _≡_ {A = ℕ} 0 1 = cc in absurd (omega arith)
 
 -- ---- its tests are those of form, then those of what stands ----
 
@@ -131,12 +127,6 @@ module _ (c : Contents) (w : Sound c) (o : Define) (room : ℕ) where
   set-pairs =
       set-product (does .begins .state) (defineRadios o) (defineGroups o) (ledgerOf c .pairs)
       ∙ sym (ap (λ (a : Ledger). a .pairs) (define-lists placing by-arrival (ledgerOf c) (standing c w) o room))
-
--- the two counts written at the head
-set-both : (head : List ℕ) (n m : ℕ) → 2 ≤ length head → set (set head 0 n) 1 m ≡ onto (n ∷ m ∷ []) head
-set-both [] n m h = absurd (omega arith)
-set-both (a ∷ []) n m h = absurd (omega arith)
-set-both (a ∷ b ∷ l) n m h = refl
 
 -- what the walks leave is the ledger, laid over the contents
 pub all-laid : (c : Contents) → Sound c → (l : Ledger) (n m : ℕ) (groups pairs : Rows)

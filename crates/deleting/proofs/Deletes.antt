@@ -35,7 +35,7 @@ use Rattle.store.proofs.FormLaws.{law-form}
 use Rattle.replies.specs.Orders.{replyOf, verdict}
 use Rattle.replies.specs.declared.Reply.{Reply}
 use Rattle.replies.specs.declared.Reply.the-variants.{Done, Refused}
-use Rattle.replies.proofs.Orders.{first-none, first-some, reply-none, reply-some, alter-same, tests-pass}
+use Rattle.replies.proofs.Orders.{set-both, first-none, first-some, reply-none, reply-some, alter-same, tests-pass}
 use Rattle.turning.specs.Turns.{turnOf}
 use Rattle.gathering.specs.Rows.{everyone}
 use Rattle.deleting.specs.Leaving.{leavingOrders}
@@ -117,11 +117,6 @@ deleted-groups : (remove : Bool) (named : List ℕ) (l : List (ℕ × Group))
     → groupsLeft named remove l ≡ alter (λ g x. cond (remove && mem g named) none (some x)) l
 deleted-groups true named l = refl
 deleted-groups false named l = sym (alter-all l)
-
-set-both : (head : List ℕ) (n m : ℕ) → 2 ≤ length head → set (set head 0 n) 1 m ≡ onto (n ∷ m ∷ []) head
-set-both [] n m h = absurd (omega arith)
-set-both (a ∷ []) n m h = absurd (omega arith)
-set-both (a ∷ b ∷ l) n m h = refl
 
 module _ (c : Contents) (w : Sound c) (asker : Itsi) (named : Listed) (given : named .given ≡ true) (remove deassign : Bool) (radios : Listed) (room : ℕ)
     (some-work : (not remove && not deassign) ≡ false) where

@@ -91,6 +91,10 @@ pub reply-some : (o : Option Refusal) (r : Refusal) → Refused r ≡ replyOf o 
 reply-some none r e = let z : _≡_ {A = ℕ} 0 1 = cc in absurd (omega arith)
 reply-some (some x) r e = let q : x ≡ r = cc in ap some q
 
+-- a refusal is no acceptance
+pub not-done : {P : Type 0} (r : Refusal) → Refused r ≡ Done → P
+not-done r e = let z : _≡_ {A = ℕ} 0 1 = cc in absurd (omega arith)
+
 -- ---- the contents ----
 
 pub alter-same : {K X : Type 0} (f g : K → X → Option X) → ((k : K) (x : X) → f k x ≡ g k x) → (l : List (K × X)) → alter f l ≡ alter g l
@@ -106,6 +110,11 @@ pub head-counts : (head : List ℕ) (n m : ℕ) → 2 ≤ length head → n ≡ 
 head-counts [] n m h e = absurd (omega arith)
 head-counts (a ∷ []) n m h e = absurd (omega arith)
 head-counts (a ∷ b ∷ l) n m h e = rw e
+
+pub set-both : (head : List ℕ) (n m : ℕ) → 2 ≤ length head → set (set head 0 n) 1 m ≡ onto (n ∷ m ∷ []) head
+set-both [] n m h = absurd (omega arith)
+set-both (a ∷ []) n m h = absurd (omega arith)
+set-both (a ∷ b ∷ l) n m h = refl
 
 module _ (c : Contents) (w : Sound c) where
   pub count-groups : length (ledgerOf c .groups) ≡ groupCount c

@@ -7,12 +7,14 @@ use lib.ListN.{length}
 use Rattle.refusal.specs.declared.Refusal.{Refusal}
 use Rattle.refusal.specs.Says.{Says, accepted, refusedWith}
 use Rattle.rules.specs.Order.{Step}
+use Rattle.rules.specs.Replies.{Showing}
 use Rattle.order.specs.declared.Gtsi.{Gtsi}
 use Rattle.order.specs.declared.Itsi.{Itsi}
 use Rattle.store.specs.Storage.{Contents, Rows}
 use Rattle.replies.specs.Orders.{replyOf, verdict, Replies}
 use Rattle.replies.specs.Sending.{sentOn, sentReply, Sends}
-use Rattle.replies.specs.Listing.{listOn, membersReply, Lists}
+use Rattle.replies.specs.Listing.{listOn, membersReply, Enumerates}
+use Rattle.replies.specs.Showing.{shownOf}
 use Rattle.replies.specs.Says.{replySays, sentSays, membersSays}
 use Rattle.replies.specs.declared.Reply.{Reply}
 use Rattle.replies.specs.declared.Sent.{Sent}
@@ -43,6 +45,9 @@ module _ {before after : Contents} where
       → sentSays reply ≡ told (verdict before (step (length room))) (length (sentOn before (step (length room))) ∷ [])
   sends-say {step} {room} p = rw (p .replies) (sent-told (verdict before (step (length room))) _)
 
-pub lists-say : {on : Contents} {asker : Itsi} {group : Gtsi} {room listed : Rows} {reply : Members} → Lists on asker group room listed reply
+pub lists-say : {on : Contents} {asker : Itsi} {group : Gtsi} {room listed : Rows} {reply : Members} → Enumerates on asker group room listed reply
     → let l = listOn on asker group (length room) in membersSays reply ≡ told (l .refused) (length (l .entries) ∷ [])
 lists-say {on} {asker} {group} {room} p = let l = listOn on asker group (length room) in rw (p .replies) (members-told (l .refused) (length (l .entries)))
+
+pub shows-say : (s : Showing) → replySays (shownOf s .reply) ≡ told (s .refused) []
+shows-say s = reply-told (s .refused)

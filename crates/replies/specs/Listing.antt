@@ -33,6 +33,6 @@ abbrev pub membersOf : Listing → Members
 membersOf l = membersReply (l .refused) (length (l .entries))
 
 -- a list: its reply, and the room that begins with its entries
-pub record Lists (on : Contents) (asker : Itsi) (group : Gtsi) (room listed : Rows) (reply : Members) : Type 0 where
+pub record Enumerates (on : Contents) (asker : Itsi) (group : Gtsi) (room listed : Rows) (reply : Members) : Type 0 where
   pub replies : reply ≡ membersOf (listOn on asker group (length room))
   pub lists : listed ≡ onto (map entryRow (listOn on asker group (length room) .entries)) room

@@ -1,7 +1,6 @@
 -- Document 01's number, 0 where it is accepted, and the values that each answer says.
 use Prim.Native.Nat.{ℕ}
-use mathlib.Core.List.{List, [], _∷_, _++_}
-use lib.ListN.{take}
+use mathlib.Core.List.{List, [], _∷_}
 use Rattle.refusal.specs.Says.{Says, accepted, refusedWith}
 use Rattle.replies.specs.declared.Reply.{Reply}
 use Rattle.replies.specs.declared.Reply.the-variants as reply
@@ -9,8 +8,8 @@ use Rattle.replies.specs.declared.Sent.{Sent}
 use Rattle.replies.specs.declared.Sent.the-variants as sent
 use Rattle.replies.specs.declared.Members.{Members}
 use Rattle.replies.specs.declared.Members.the-variants as members
-use Rattle.replies.specs.declared.Shown.{Shown}
 
+-- an order's, and a show's beside what it shows
 abbrev pub replySays : Reply → Says
 replySays reply.Done = accepted []
 replySays (reply.Refused r) = refusedWith r
@@ -24,12 +23,3 @@ sentSays (sent.Refused r) = refusedWith r
 abbrev pub membersSays : Members → Says
 membersSays (members.Radios n) = accepted (n ∷ [])
 membersSays (members.Refused r) = refusedWith r
-
--- the owners, then the parameters, each one up and 0 where absent, then the letters
-abbrev pub shownSays : Shown → Says
-shownSays s = go (s .reply)
-  where
-    go : Reply → Says
-    go reply.Done = accepted (take (s .count) (s .owners)
-        ++ (s .reference ∷ s .acknowledged ∷ s .broadcast ∷ s .class ∷ s .lifetime ∷ s .temporary ∷ take (s .letters) (s .name)))
-    go (reply.Refused r) = refusedWith r

@@ -6,4 +6,5 @@ pub mod Tests
 pub mod Groups
 pub mod FormLaws
 pub mod NamedLaws
+pub mod Says
 pub mod Unique

@@ -4,3 +4,4 @@ pub mod Storage
 pub mod Places
 pub mod Form
 pub mod Named
+pub mod Says
