@@ -37,14 +37,19 @@ found-open (some m) = refl
 -- ---- an order that changes pairs alone ----
 
 module _ (c : Contents) (w : Sound c) where
-  pub turned-laid : (turns : ℕ → ℕ → Mark → Option Mark) (n : ℕ) (rows : List (List ℕ)) → n ≡ length (alter (λ (k : Pair). turns (k .0) (k .1)) (pairsOf (pairCount c) (c .pairs))) → rows ≡ onto (map pairRow (alter (λ (k : Pair). turns (k .0) (k .1)) (pairsOf (pairCount c) (c .pairs)))) (c .pairs) → contents (set (c .head) 1 n) (c .groups) rows ≡ laid (apply placing (ledgerOf c) (only (λ g. false) turns)) c
+  pub turned-laid : (turns : ℕ → ℕ → Mark → Option Mark) (n : ℕ) (rows : List (List ℕ))
+      → n ≡ length (alter (λ (k : Pair). turns (k .0) (k .1)) (pairsOf (pairCount c) (c .pairs)))
+      → rows ≡ onto (map pairRow (alter (λ (k : Pair). turns (k .0) (k .1)) (pairsOf (pairCount c) (c .pairs)))) (c .pairs)
+      → contents (set (c .head) 1 n) (c .groups) rows ≡ laid (apply placing (ledgerOf c) (only (λ g. false) turns)) c
   turned-laid turns n rows e d =
       rw (alter-all (groupsOf (groupCount c) (c .groups)), groups-stay c w, ← d, ← e, count-groups c w, ← head-counts (c .head) (groupCount c) n (w .head) refl)
 
-  pub ticked-laid : (rows : List (List ℕ)) → rows ≡ onto (map pairRow (alter (λ (k : Pair) m. some (ticked m)) (pairsOf (pairCount c) (c .pairs)))) (c .pairs) → contents (c .head) (c .groups) rows ≡ laid (apply placing (ledgerOf c) (effect (view (ledgerOf c)) tick)) c
+  pub ticked-laid : (rows : List (List ℕ)) → rows ≡ onto (map pairRow (alter (λ (k : Pair) m. some (ticked m)) (pairsOf (pairCount c) (c .pairs))))
+      (c .pairs) → contents (c .head) (c .groups) rows ≡ laid (apply placing (ledgerOf c) (effect (view (ledgerOf c)) tick)) c
   ticked-laid rows d =
       let n = pairCount c in
-      let e : n ≡ length (alter (λ (k : Pair) m. some (ticked m)) (pairsOf n (c .pairs))) = sym (alter-length (λ (k : Pair) m. ticked m) (pairsOf n (c .pairs)) ∙ count-pairs c w) in
+      let e : n ≡ length (alter (λ (k : Pair) m. some (ticked m)) (pairsOf n (c .pairs))) = sym
+      (alter-length (λ (k : Pair) m. ticked m) (pairsOf n (c .pairs)) ∙ count-pairs c w) in
       ap (λ (z : List ℕ). contents z (c .groups) rows) (sym (set-getD (c .head) 1 0)) ∙ turned-laid (λ g r m. some (ticked m)) n rows e d
 
 -- an answer turns its one pair
@@ -59,10 +64,12 @@ module _ (m : Mark) where
   leaves true false = refl
   leaves false y = refl
 
-pub answered-turn : (g r result : ℕ) (k : Pair) (m : Mark) → turnOf (answerTurn result) (g ∷ []) (r ∷ []) k m ≡ cond (eqb (k .0) g && eqb (k .1) r) (answered result) (some m)
+pub answered-turn : (g r result : ℕ) (k : Pair) (m : Mark) → turnOf (answerTurn result) (g ∷ []) (r ∷ []) k m ≡ cond (eqb (k .0) g && eqb (k .1) r)
+    (answered result) (some m)
 answered-turn g r result k m = go (eqb result 1)
   where
-    go : (a : Bool) → cond (staysOf (cond a Confirm Leave) (g ∷ []) (r ∷ []) k) (some (markOf (cond a Confirm Leave) (g ∷ []) (r ∷ []) k m)) none ≡ cond (eqb (k .0) g && eqb (k .1) r) (cond a (some (fresh confirmed)) none) (some m)
+    go : (a : Bool) → cond (staysOf (cond a Confirm Leave) (g ∷ []) (r ∷ []) k) (some (markOf (cond a Confirm Leave) (g ∷ []) (r ∷ []) k m)) none ≡ cond
+        (eqb (k .0) g && eqb (k .1) r) (cond a (some (fresh confirmed)) none) (some m)
     go true = confirms m (eqb (k .0) g) (eqb (k .1) r)
     go false = leaves m (eqb (k .0) g) (eqb (k .1) r)
 
@@ -70,8 +77,12 @@ answered-turn g r result k m = go (eqb result 1)
 pub empty-laid : (c : Contents) → Room c → contents (set (set (c .head) 0 0) 1 0) (c .groups) (c .pairs) ≡ laid empty c
 empty-laid c r = ap (λ (z : List ℕ). contents z (c .groups) (c .pairs)) (set-both (c .head) 0 0 (r .head))
 
-pub answered-laid : (c : Contents) → Sound c → (radio : Itsi) (group : Gtsi) (result : ℕ) (turn : Turn) (n : ℕ) (rows : List (List ℕ)) → turn ≡ answerTurn result → n ≡ length (alter (turnOf turn (group .0 ∷ []) (radio .0 ∷ [])) (pairsOf (pairCount c) (c .pairs))) → rows ≡ onto (map pairRow (alter (turnOf turn (group .0 ∷ []) (radio .0 ∷ [])) (pairsOf (pairCount c) (c .pairs)))) (c .pairs) → contents (set (c .head) 1 n) (c .groups) rows ≡ laid (apply placing (ledgerOf c) (effect (view (ledgerOf c)) (answerStep radio group result))) c
+pub answered-laid : (c : Contents) → Sound c → (radio : Itsi) (group : Gtsi) (result : ℕ) (turn : Turn) (n : ℕ) (rows : List (List ℕ))
+    → turn ≡ answerTurn result → n ≡ length (alter (turnOf turn (group .0 ∷ []) (radio .0 ∷ [])) (pairsOf (pairCount c) (c .pairs)))
+    → rows ≡ onto (map pairRow (alter (turnOf turn (group .0 ∷ []) (radio .0 ∷ [])) (pairsOf (pairCount c) (c .pairs)))) (c .pairs)
+    → contents (set (c .head) 1 n) (c .groups) rows ≡ laid (apply placing (ledgerOf c) (effect (view (ledgerOf c)) (answerStep radio group result))) c
 answered-laid c w radio group result turn n rows t e d =
     let turns : ℕ → ℕ → Mark → Option Mark = λ g r m. cond (eqb g (group .0) && eqb r (radio .0)) (answered result) (some m) in
-    let q = alter-same (turnOf turn (group .0 ∷ []) (radio .0 ∷ [])) (λ (k : Pair). turns (k .0) (k .1)) (λ k m. rw t (answered-turn (group .0) (radio .0) result k m)) (pairsOf (pairCount c) (c .pairs)) in
+    let q = alter-same (turnOf turn (group .0 ∷ []) (radio .0 ∷ [])) (λ (k : Pair). turns (k .0) (k .1))
+    (λ k m. rw t (answered-turn (group .0) (radio .0) result k m)) (pairsOf (pairCount c) (c .pairs)) in
     turned-laid c w turns n rows (e ∙ ap length q) (d ∙ ap (λ (z : List (Pair × Mark)). onto (map pairRow z) (c .pairs)) q)

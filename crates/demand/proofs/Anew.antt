@@ -37,7 +37,8 @@ use Rattle.demand.proofs.Demand.{demand}
 
 -- two runs with one history, whatever lay in the lent places before them and wherever their rows lie
 module _ {c c′ : Contents} {h : History} (k : Kept c h) (k′ : Kept c′ h) {asker : Itsi} {group : Gtsi} where
-  pub same-lists : {room listed listed′ : Rows} {reply reply′ : Members} → Lists asker group room listed c reply → Lists asker group room listed′ c′ reply′ → (reply ≡ reply′) × (listed ≡ listed′)
+  pub same-lists : {room listed listed′ : Rows} {reply reply′ : Members} → Lists asker group room listed c reply → Lists asker group room listed′ c′ reply′
+      → (reply ≡ reply′) × (listed ≡ listed′)
   same-lists e e′ =
       let a = demand k .lists e in
       let b = demand k′ .lists e′ in
@@ -59,7 +60,8 @@ sent-none (some r) n k e = let z : _≡_ {A = ℕ} 0 1 = cc in absurd (omega ari
 -- an accepted delete takes the group away, an accepted define without radios makes it again: the list of the define's asker
 -- is empty, and leaves its room as it was, whatever radios the group had
 pub again-empty : {c₀ c₁ c₂ : Contents} {h : History} → Kept c₀ h
-    → {asker : Itsi} {named : Numbers} {deassign : Bool} {radios : Listed} {space sent : Rows} {n : ℕ} → Deletes asker named true deassign radios space sent c₀ c₁ (Orders n)
+    → {asker : Itsi} {named : Numbers} {deassign : Bool} {radios : Listed} {space sent : Rows} {n : ℕ}
+    → Deletes asker named true deassign radios space sent c₀ c₁ (Orders n)
     → {maker : Itsi} {values : Record} {space′ sent′ : Rows} {n′ : ℕ} → Defines maker values space′ sent′ c₁ c₂ (Orders n′)
     → {group : Gtsi} {room listed : Rows} {reply : Members} → Lists maker group room listed c₂ reply
     → mem (group .0) (numbers (numbersOf named)) ≡ true

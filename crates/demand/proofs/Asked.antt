@@ -64,7 +64,8 @@ defines asker values room c =
 
 deletes : (asker : Itsi) (named : Numbers) (remove deassign : Bool) (radios : Listed) (room : Rows) (c : Contents)
     → let s = deleteStep asker named remove deassign radios (length room) in
-    Deletes asker named remove deassign radios room (onto (map orderRow (sentOn c s)) room) c (contentsAfter c s) (sentReply (verdict c s) (length (sentOn c s)))
+    Deletes asker named remove deassign radios room (onto (map orderRow (sentOn c s)) room) c (contentsAfter c s)
+    (sentReply (verdict c s) (length (sentOn c s)))
 deletes asker named remove deassign radios room c =
     let s = deleteStep asker named remove deassign radios (length room) in
     let to = lends (contentsAfter c s) in
@@ -87,16 +88,19 @@ answer-stays radio group result c w = go (refused placing (ledgerOf c) (answerSt
     turns : ℕ → ℕ → mark.Mark → Option mark.Mark
     turns = effect (view (ledgerOf c)) (answerStep radio group result) .turns
 
-    go : (o : Option Refusal) → refused placing (ledgerOf c) (answerStep radio group result) ≡ o → contentsAfter c (answerStep radio group result) .groups ≡ c .groups
+    go : (o : Option Refusal) → refused placing (ledgerOf c) (answerStep radio group result) ≡ o
+        → contentsAfter c (answerStep radio group result) .groups ≡ c .groups
     go none e = ap (λ (x : Contents). x .groups) (taken-after c (answerStep radio group result) (w .form) e .1 ∙ sym (turned-laid c w turns _ _ refl refl))
-    go (some r) e = ap (λ (x : Contents). x .groups) (sym (refused-stays c (answerStep radio group result) r (λ i. replyOf (cond (sym (w .form) i) (sym e i) (some NotWritten)))))
+    go (some r) e = ap (λ (x : Contents). x .groups)
+        (sym (refused-stays c (answerStep radio group result) r (λ i. replyOf (cond (sym (w .form) i) (sym e i) (some NotWritten)))))
 
 answers : (radio : Itsi) (group : Gtsi) (result : ℕ) (c : Contents) → Sound c
     → let s = answerStep radio group result in Answers radio group result c (contentsAfter c s) (replyOf (verdict c s))
 answers radio group result c w =
     let s = answerStep radio group result in
     let to = lends (contentsAfter c s) in
-    let e : contents (contentsAfter c s .head) (c .groups) (contentsAfter c s .pairs) ≡ contentsAfter c s = λ i. contents (contentsAfter c s .head) (sym (answer-stays radio group result c w) i) (contentsAfter c s .pairs) in
+    let e : contents (contentsAfter c s .head) (c .groups) (contentsAfter c s .pairs) ≡ contentsAfter c s = λ i. contents (contentsAfter c s .head)
+    (sym (answer-stays radio group result c w) i) (contentsAfter c s .pairs) in
     record {
       lifetimes = ([], ([], ([], tt)));
       lent = lends c;
@@ -147,18 +151,26 @@ reached (asked.define asker values n ∷ l) =
     let room : Rows = replicate n blank in
     record {
       left = contentsAfter (r .left) (defineStep asker (values .place) (length room));
-      kept = subst (λ (m : ℕ). Kept (contentsAfter (r .left) (defineStep asker (values .place) (length room))) (historyOf l then defineStep asker (values .place) m)) (length-replicate {A = List ℕ} n blank) (defined (r .kept) (defines asker values room (r .left)));
+      kept = subst (λ (m : ℕ). Kept (contentsAfter (r .left) (defineStep asker (values .place) (length room)))
+          (historyOf l then defineStep asker (values .place) m)) (length-replicate {A = List ℕ} n blank)
+          (defined (r .kept) (defines asker values room (r .left)));
     }
 reached (asked.delete asker named remove deassign radios n ∷ l) =
     let r = reached l in
     let room : Rows = replicate n blank in
     record {
       left = contentsAfter (r .left) (deleteStep asker named remove deassign radios (length room));
-      kept = subst (λ (m : ℕ). Kept (contentsAfter (r .left) (deleteStep asker named remove deassign radios (length room))) (historyOf l then deleteStep asker named remove deassign radios m)) (length-replicate {A = List ℕ} n blank) (deleted (r .kept) (deletes asker named remove deassign radios room (r .left)));
+      kept = subst (λ (m : ℕ). Kept (contentsAfter (r .left) (deleteStep asker named remove deassign radios (length room)))
+          (historyOf l then deleteStep asker named remove deassign radios m)) (length-replicate {A = List ℕ} n blank)
+          (deleted (r .kept) (deletes asker named remove deassign radios room (r .left)));
     }
 reached (asked.answer radio group result ∷ l) =
     let r = reached l in
-    record { left = contentsAfter (r .left) (answerStep radio group result); kept = answered (r .kept) (answers radio group result (r .left) (run-stands (r .kept) .sound)) }
+    record {
+      left = contentsAfter (r .left) (answerStep radio group result);
+      kept = answered (r .kept)
+          (answers radio group result (r .left) (run-stands (r .kept) .sound));
+    }
 reached (asked.tick ∷ l) =
     let r = reached l in
     record { left = contentsAfter (r .left) order.tick; kept = ticked (r .kept) (ticks (r .left) (run-stands (r .kept) .sound)) }

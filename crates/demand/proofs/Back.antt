@@ -62,7 +62,8 @@ module _ (e : ℕ × Group) (good : goodGroup e ≡ true) where
       let n : length (l ++ z16) ≡ 16 = rw (length-append l z16, length-replicate {A = ℕ} (16 - length l) 0) (omega (arith, few)) in
       let named : take 16 ((l ++ z16) ++ counted 11 os) ≡ l ++ z16 = take-at (l ++ z16) (counted 11 os) 16 n in
       let count : getD ((l ++ z16) ++ counted 11 os) 16 0 ≡ length os = getD-at (l ++ z16) (length os) (os ++ z11) 0 16 n in
-      let rest : drop 17 ((l ++ z16) ++ counted 11 os) ≡ os ++ z11 = ap (λ (k : ℕ). drop (k + 1) ((l ++ z16) ++ counted 11 os)) (sym n) ∙ drop-append-add (l ++ z16) (counted 11 os) 1 in
+      let rest : drop 17 ((l ++ z16) ++ counted 11 os) ≡ os ++ z11 = ap (λ (k : ℕ). drop (k + 1) ((l ++ z16) ++ counted 11 os)) (sym n)
+      ∙ drop-append-add (l ++ z16) (counted 11 os) 1 in
       rw (named, count, rest, le-leb (length l) 16 few, le-leb (length os) 11 owners-few) (and-in (ends l (16 - length l)) (ends os (11 - length os)))
     where
       zeros : (k : ℕ) → blank (replicate k 0) ≡ true
@@ -99,7 +100,8 @@ groups-good l h =
     and-l (all goodGroup (l .groups)) (all (goodPair l) (l .pairs)) (and-r (distinct samePair (l .pairs)) good h₃)
 
 -- rows from which everything is read back
-rows-plain : {X : Type 0} (itemOf : List ℕ → X) (rowOf : X → List ℕ) (l : List X) (rest : List (List ℕ)) → map itemOf (map rowOf l) ≡ l → Plain itemOf rowOf (length l) (map rowOf l ++ rest)
+rows-plain : {X : Type 0} (itemOf : List ℕ → X) (rowOf : X → List ℕ) (l : List X) (rest : List (List ℕ)) → map itemOf (map rowOf l) ≡ l
+    → Plain itemOf rowOf (length l) (map rowOf l ++ rest)
 rows-plain itemOf rowOf [] rest e i h = absurd (omega arith)
 rows-plain itemOf rowOf (x ∷ l) rest e zero h = let q : itemOf (rowOf x) ≡ x = cc in ap rowOf q
 rows-plain itemOf rowOf (x ∷ l) rest e (suc i) h = let q : map itemOf (map rowOf l) ≡ l = cc in rows-plain itemOf rowOf l rest q i (omega arith)
@@ -114,7 +116,8 @@ module _ (l : Ledger) (c : Contents) (fine : written placing l ≡ true) where
       let g : map groupOf (take (length (l .groups)) (onto (map groupRow (l .groups)) (c .groups))) ≡ l .groups =
       ap (map groupOf) rows-in-use ∙ groups-back (l .groups) (groups-good l fine) in
       let p : map pairOf (take (length (l .pairs)) (onto (map pairRow (l .pairs)) (c .pairs))) ≡ l .pairs =
-      ap (map pairOf) (take-at (map pairRow (l .pairs)) (drop (length (map pairRow (l .pairs))) (c .pairs)) (length (l .pairs)) (length-map (l .pairs) pairRow)) ∙ pairs-back (l .pairs) in
+      ap (map pairOf) (take-at (map pairRow (l .pairs)) (drop (length (map pairRow (l .pairs))) (c .pairs)) (length (l .pairs))
+      (length-map (l .pairs) pairRow)) ∙ pairs-back (l .pairs) in
       λ i. record { groups = g i; pairs = p i }
 
   -- the room stays
@@ -124,7 +127,8 @@ module _ (l : Ledger) (c : Contents) (fine : written placing l ≡ true) where
       let s = room-of c r in
       let n : length (map groupRow (l .groups)) ≤ length (c .groups) = rw (length-map (l .groups) groupRow) (omega (arith, f .few-groups, s .groups)) in
       let m : length (map pairRow (l .pairs)) ≤ length (c .pairs) = rw (length-map (l .pairs) pairRow) (omega (arith, f .few-pairs, s .pairs)) in
-      and-in (le-leb 2 (length (onto (length (l .groups) ∷ length (l .pairs) ∷ []) (c .head))) (rw (onto-length (length (l .groups) ∷ length (l .pairs) ∷ []) (c .head) (s .head)) (s .head)))
+      and-in (le-leb 2 (length (onto (length (l .groups) ∷ length (l .pairs) ∷ []) (c .head)))
+      (rw (onto-length (length (l .groups) ∷ length (l .pairs) ∷ []) (c .head) (s .head)) (s .head)))
       (and-in (le-leb 320 (length (onto (map groupRow (l .groups)) (c .groups))) (rw (onto-length (map groupRow (l .groups)) (c .groups) n) (s .groups)))
       (le-leb 2048 (length (onto (map pairRow (l .pairs)) (c .pairs))) (rw (onto-length (map pairRow (l .pairs)) (c .pairs) m) (s .pairs))))
 

@@ -36,7 +36,8 @@ module _ {c c′ : Contents} where
     leaves = sym (e .ends) ∙ e .meets .leaves ∙ (λ i. contentsAfter (e .starts i) tick);
   }
 
-  pub answer-says : {radio : Itsi} {group : Gtsi} {result : ℕ} {reply : Reply} → Answers radio group result c c′ reply → Replies (answerStep radio group result) c c′ reply
+  pub answer-says : {radio : Itsi} {group : Gtsi} {result : ℕ} {reply : Reply} → Answers radio group result c c′ reply
+      → Replies (answerStep radio group result) c c′ reply
   answer-says {radio} {group} {result} e = record {
     replies = e .meets .replies ∙ (λ i. replyOf (verdict (e .starts i) (answerStep radio group result)));
     leaves = sym (e .ends) ∙ e .meets .leaves ∙ (λ i. contentsAfter (e .starts i) (answerStep radio group result));

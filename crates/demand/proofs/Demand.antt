@@ -53,10 +53,12 @@ module _ {c : Contents} {h : History} (k : Stands c h) where
       ∙ once-sent (accepted (refusalIn h s)) _
 
   pub listed-alike : (asker : Itsi) (group : Gtsi) (room : ℕ) → listOn c asker group room ≡ list (run placing h) (asker .0) (group .0) room
-  listed-alike asker group room = λ i. cond (k .sound .form i) (list (k .says i) (asker .0) (group .0) room) (record { refused = some NotWritten; entries = [] })
+  listed-alike asker group room = λ i. cond (k .sound .form i) (list (k .says i) (asker .0) (group .0) room)
+      (record { refused = some NotWritten; entries = [] })
 
   pub shown-alike : (asker : Itsi) (group : Gtsi) → showOn c asker group ≡ show (run placing h) (asker .0) (group .0)
-  shown-alike asker group = λ i. cond (k .sound .form i) (show (k .says i) (asker .0) (group .0)) (record { refused = some NotWritten; owners = []; parameters = noParameters })
+  shown-alike asker group = λ i. cond (k .sound .form i) (show (k .says i) (asker .0) (group .0))
+      (record { refused = some NotWritten; owners = []; parameters = noParameters })
 
   replies-alike : {s : Step} {c′ : Contents} {reply : Reply} → Replies s c c′ reply → reply ≡ replyOf (refusalIn h s)
   replies-alike {s} e = e .replies ∙ ap replyOf (judged-alike s)
@@ -70,13 +72,15 @@ module _ {c : Contents} {h : History} (k : Stands c h) where
 
   module _ {asker : Itsi} {group : Gtsi} where
     lists-alike : {room listed : Rows} {reply : Members} → Lists asker group room listed c reply
-        → (reply ≡ membersOf (list (run placing h) (asker .0) (group .0) (length room))) × (listed ≡ onto (map entryRow (list (run placing h) (asker .0) (group .0) (length room) .entries)) room)
+        → (reply ≡ membersOf (list (run placing h) (asker .0) (group .0) (length room)))
+        × (listed ≡ onto (map entryRow (list (run placing h) (asker .0) (group .0) (length room) .entries)) room)
     lists-alike {room} e =
         let s = list-says e in
         let l = listed-alike asker group (length room) in
         (s .0 ∙ ap membersOf l, s .1 ∙ (λ i. onto (map entryRow (l i .entries)) room))
 
-    lists-exactly : {room listed : Rows} {reply : Members} → Lists asker group room listed c reply → owner h (group .0) (asker .0) ≡ true → length (radiosIn h (group .0)) ≤ length room
+    lists-exactly : {room listed : Rows} {reply : Members} → Lists asker group room listed c reply → owner h (group .0) (asker .0) ≡ true
+        → length (radiosIn h (group .0)) ≤ length room
         → ListsExactly h (group .0) room listed reply
     lists-exactly {room} e o n =
         let l = list (run placing h) (asker .0) (group .0) (length room) in
@@ -91,7 +95,13 @@ module _ {c : Contents} {h : History} (k : Stands c h) where
     shows-exactly e o =
         let s = show (run placing h) (asker .0) (group .0) in
         let x = show-exact placing by-arrival h (asker .0) (group .0) o in
-        record { owners = s .owners; parameters = s .parameters; holds = shows-alike e ∙ ap (λ (r : Option Refusal). shownAs r (s .owners) (s .parameters)) (x .0); tells = x .1 }
+        record {
+          owners = s .owners;
+          parameters = s .parameters;
+          holds = shows-alike e ∙ ap (λ (r : Option Refusal). shownAs r (s .owners) (s .parameters))
+              (x .0);
+          tells = x .1;
+        }
 
 -- the demand
 pub demand : {c : Contents} {h : History} → Kept c h → Faithful c h

@@ -87,7 +87,8 @@ never18 {c} {h} k =
           in-history h s (reply-some (refusalIn h s) NotWritten (f .answers e));
       ticks = λ e. in-history h tick (reply-some (refusalIn h tick) NotWritten (f .ticks e));
       lists = λ {asker} {group} {room} e. let l = listIn h (asker .0) (group .0) (length room) in
-          list-not18 (world h) (asker .0) (group .0) (radiosIn h (group .0)) (length room) (members-some (l .refused) (length (l .entries)) NotWritten (f .lists e .0));
+          list-not18 (world h) (asker .0) (group .0) (radiosIn h (group .0)) (length room)
+          (members-some (l .refused) (length (l .entries)) NotWritten (f .lists e .0));
       shows = λ {asker} {group} e q. let o = showIn h (asker .0) (group .0) .refused in
           show-not18 (world h) (asker .0) (group .0) (reply-some o NotWritten (sym q ∙ ap (λ (x : Shown). x .reply) (f .shows e)));
       empties = λ e. roomy-begins c (form-parts c (f .written) .0) (reply-some (emptyVerdict c) NotWritten (empty-says e .replies));

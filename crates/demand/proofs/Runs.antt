@@ -37,7 +37,8 @@ laid-holds : (l : Ledger) (c : Contents) → written placing l ≡ true → room
 laid-holds l c w r = record { sound = laid-sound l c w r; says = back l c w }
 
 -- what an order leaves, by whether it is accepted
-taken-holds : (taken : Bool) (l new : Ledger) (c : Contents) → written placing (cond taken new l) ≡ true → roomy c ≡ true → Holds c l → Holds (cond taken (laid (cond taken new l) c) c) (cond taken new l)
+taken-holds : (taken : Bool) (l new : Ledger) (c : Contents) → written placing (cond taken new l) ≡ true → roomy c ≡ true → Holds c l
+    → Holds (cond taken (laid (cond taken new l) c) c) (cond taken new l)
 taken-holds true l new c w r k = laid-holds new c w r
 taken-holds false l new c w r k = k
 
@@ -45,10 +46,12 @@ step-holds : (c : Contents) (l : Ledger) (s : Step) → Holds c l → Holds (con
 step-holds c l s k =
     let p = form-parts c (k .sound .form) in
     let judges : cond (accepted (refused placing (ledgerOf c) s)) (laid (step placing (ledgerOf c) s) c) c ≡ contentsAfter c s =
-    ap (λ (b : Bool). cond (accepted (cond b (refused placing (ledgerOf c) s) (some NotWritten))) (laid (step placing (ledgerOf c) s) c) c) (sym (k .sound .form)) in
+    ap (λ (b : Bool). cond (accepted (cond b (refused placing (ledgerOf c) s) (some NotWritten))) (laid (step placing (ledgerOf c) s) c) c)
+    (sym (k .sound .form)) in
     subst (λ (x : Ledger). Holds (contentsAfter c s) (step placing x s)) (k .says)
     (subst (λ (x : Contents). Holds x (step placing (ledgerOf c) s)) judges
-    (taken-holds (accepted (refused placing (ledgerOf c) s)) (ledgerOf c) (apply placing (ledgerOf c) (effect (view (ledgerOf c)) s)) c (step-written placing by-arrival (ledgerOf c) s (p .1)) (p .0) (record { sound = k .sound; says = refl })))
+    (taken-holds (accepted (refused placing (ledgerOf c) s)) (ledgerOf c) (apply placing (ledgerOf c) (effect (view (ledgerOf c)) s)) c
+    (step-written placing by-arrival (ledgerOf c) s (p .1)) (p .0) (record { sound = k .sound; says = refl })))
 
 -- `empty` over contents with room
 empty-holds : (c : Contents) → Done ≡ replyOf (emptyVerdict c) → Holds (emptied c) empty
@@ -73,7 +76,9 @@ begins {c} e = let s = empty-says e in stands start (subst (λ (x : Contents). H
 
 -- any order, by the contents that it leaves
 follows : {c c′ : Contents} {h : History} (s : Step) → c′ ≡ contentsAfter c s → Stands c h → Stands c′ (h then s)
-follows {c} {c′} {h} s e k = stands (h then s) (subst (λ (x : Contents). Holds x (step placing (run placing h) s)) (sym e) (step-holds c (run placing h) s (record { sound = k .sound; says = k .says })))
+follows {c} {c′} {h} s e k = stands (h then s)
+    (subst (λ (x : Contents). Holds x (step placing (run placing h) s)) (sym e)
+    (step-holds c (run placing h) s (record { sound = k .sound; says = k .says })))
 
 replied : {s : Step} {c c′ : Contents} {h : History} {reply : Reply} → Stands c h → Replies s c c′ reply → Stands c′ (h then s)
 replied {s} k r = follows s (r .leaves) k

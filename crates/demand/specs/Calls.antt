@@ -81,7 +81,8 @@ pub record Defines (asker : Itsi) (values : Record) (room sent : Rows) (before a
   pub ends : contents (now (left .0)) (now (left .1 .0)) (now (left .1 .1 .0)) ≡ after
   pub sends : now (left .1 .1 .1 .1 .1 .0) ≡ sent
 
-pub record Deletes (asker : Itsi) (named : Numbers) (remove deassign : Bool) (radios : Listed) (room sent : Rows) (before after : Contents) (reply : Sent) : Type 0 where
+pub record Deletes (asker : Itsi) (named : Numbers) (remove deassign : Bool) (radios : Listed) (room sent : Rows) (before after : Contents)
+    (reply : Sent) : Type 0 where
   pub lifetimes : Lfts 4
   pub lent : Storage
   pub out : RefT Rows

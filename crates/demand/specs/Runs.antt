@@ -23,7 +23,8 @@ pub data Kept : Contents → History → Type 0 where
   defined : {c c′ : Contents} {h : History} {asker : Itsi} {values : Record} {room sent : Rows} {reply : Sent}
       → Kept c h → Defines asker values room sent c c′ reply → Kept c′ (h then defineStep asker (values .place) (length room))
   deleted : {c c′ : Contents} {h : History} {asker : Itsi} {named : Numbers} {remove deassign : Bool} {radios : Listed} {room sent : Rows} {reply : Sent}
-      → Kept c h → Deletes asker named remove deassign radios room sent c c′ reply → Kept c′ (h then deleteStep asker named remove deassign radios (length room))
+      → Kept c h → Deletes asker named remove deassign radios room sent c c′ reply
+      → Kept c′ (h then deleteStep asker named remove deassign radios (length room))
   answered : {c c′ : Contents} {h : History} {radio : Itsi} {group : Gtsi} {result : ℕ} {reply : Reply}
       → Kept c h → Answers radio group result c c′ reply → Kept c′ (h then answerStep radio group result)
   ticked : {c c′ : Contents} {h : History} {reply : Reply}

@@ -46,7 +46,8 @@ module _ (c : Contents) (s : Step) where
       go true q (some r) e = let z : _≡_ {A = ℕ} 0 1 = cc in absurd (omega arith)
       go false q o e = let z : _≡_ {A = ℕ} 0 1 = cc in absurd (omega arith)
 
-  pub taken-after : isWritten c ≡ true → refused placing (ledgerOf c) s ≡ none → (Done ≡ replyOf (verdict c s)) × (contentsAfter c s ≡ laid (apply placing (ledgerOf c) (effect (view (ledgerOf c)) s)) c)
+  pub taken-after : isWritten c ≡ true → refused placing (ledgerOf c) s ≡ none → (Done ≡ replyOf (verdict c s))
+      × (contentsAfter c s ≡ laid (apply placing (ledgerOf c) (effect (view (ledgerOf c)) s)) c)
   taken-after w e = rw (w, e) (refl, refl)
 
 -- ---- the tests, and the reply that tells them ----
@@ -129,12 +130,16 @@ module _ (c : Contents) (w : Sound c) where
 -- ---- an order that sends ----
 
 module _ (c : Contents) (s : Step) where
-  pub sent-refused : (r : Refusal) → Refused r ≡ replyOf (verdict c s) → (sends.Refused r ≡ sentReply (verdict c s) (length (sentOn c s))) × (c ≡ contentsAfter c s) × (sentOn c s ≡ [])
+  pub sent-refused : (r : Refusal) → Refused r ≡ replyOf (verdict c s) → (sends.Refused r ≡ sentReply (verdict c s) (length (sentOn c s)))
+      × (c ≡ contentsAfter c s) × (sentOn c s ≡ [])
   sent-refused r = go (verdict c s)
     where
-      go : (o : Option Refusal) → Refused r ≡ replyOf o → (sends.Refused r ≡ sentReply o (length (cond (accepted o) (sent placing (ledgerOf c) s) []))) × (c ≡ cond (accepted o) (laid (step placing (ledgerOf c) s) c) c) × (cond (accepted o) (sent placing (ledgerOf c) s) [] ≡ [])
+      go : (o : Option Refusal) → Refused r ≡ replyOf o → (sends.Refused r ≡ sentReply o (length (cond (accepted o) (sent placing (ledgerOf c) s) [])))
+          × (c ≡ cond (accepted o) (laid (step placing (ledgerOf c) s) c) c) × (cond (accepted o) (sent placing (ledgerOf c) s) [] ≡ [])
       go none e = let z : _≡_ {A = ℕ} 0 1 = cc in absurd (omega arith)
       go (some x) e = let q : r ≡ x = cc in (ap sends.Refused q, refl, refl)
 
-  pub sent-taken : isWritten c ≡ true → refused placing (ledgerOf c) s ≡ none → (n : ℕ) (os : List Outgoing) → outgoing (view (ledgerOf c)) (tally placing (ledgerOf c) (effect (view (ledgerOf c)) s)) s ≡ os → n ≡ length os → (sends.Orders n ≡ sentReply (verdict c s) (length (sentOn c s))) × (sentOn c s ≡ os)
+  pub sent-taken : isWritten c ≡ true → refused placing (ledgerOf c) s ≡ none → (n : ℕ) (os : List Outgoing)
+      → outgoing (view (ledgerOf c)) (tally placing (ledgerOf c) (effect (view (ledgerOf c)) s)) s ≡ os → n ≡ length os
+      → (sends.Orders n ≡ sentReply (verdict c s) (length (sentOn c s))) × (sentOn c s ≡ os)
   sent-taken w e n os q m = rw (w, e) (ap sends.Orders (m ∙ ap length (sym q)), q)

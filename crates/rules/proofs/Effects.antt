@@ -50,7 +50,8 @@ module _ (p : Placing) (laws : Lawful p) (l : Ledger) (s : Standing p l) (e : Ef
 
   pub standing-apply : Standing p (apply p l e)
   standing-apply = record {
-    groups = form-puts eqb eqb-true eqb-same (p .groups) (laws .groups) (alter goes (l .groups)) (e .makes) (λ g. groupAfter (e .keeps) (given e) (group l g)) left;
+    groups = form-puts eqb eqb-true eqb-same (p .groups) (laws .groups) (alter goes (l .groups)) (e .makes)
+        (λ g. groupAfter (e .keeps) (given e) (group l g)) left;
     pairs = form-puts samePair pair-sound pair-itself (p .pairs) (laws .pairs) (alter turns (l .pairs)) (product (e .makes) (e .assigns)) (λ k. e .begins)
         turned-left;
   }

@@ -43,11 +43,13 @@ module _ (p : Placing) (laws : Lawful p) (l : Ledger) (s : Standing p l) (o : De
 
   -- one group after the other, each made from what stands at its turn
   pub define-lists : apply p l (effect (view l) (define o room)) ≡ record {
-    groups = putsNow (p .groups) eqb (l .groups) (defineGroups o) (groupAfter ((effect (view l) (define o room)) .keeps) (given (effect (view l) (define o room))));
+    groups = putsNow (p .groups) eqb (l .groups) (defineGroups o)
+        (groupAfter ((effect (view l) (define o room)) .keeps) (given (effect (view l) (define o room))));
     pairs = puts (p .pairs) (l .pairs) (product (defineGroups o) (defineRadios o)) (λ k. begun (o .acknowledgement));
   }
   define-lists =
-      let now = puts-now eqb eqb-true eqb-same (p .groups) (laws .groups) (l .groups) (defineGroups o) (groupAfter (e .keeps) (given e)) (s .groups) (numbers-once (o .groups)) in
+      let now = puts-now eqb eqb-true eqb-same (p .groups) (laws .groups) (l .groups) (defineGroups o) (groupAfter (e .keeps) (given e)) (s .groups)
+      (numbers-once (o .groups)) in
       λ i. record { groups = (made ∙ now) i; pairs = set i }
 
   -- one more for each group that is missing, and for each pair

@@ -120,7 +120,8 @@ record Fit (p : Placing) (l : Ledger) (e : Effect) : Type 0 where
   few-pairs : length (apply p l e .pairs) ≤ maxPairs
 
 module _ (p : Placing) (laws : Lawful p) (l : Ledger) (f : Form p l) (e : Effect) (fit : Fit p l e) where
-  group-then : (g : ℕ) → group (apply p l e) g ≡ cond (mem g (e .makes)) (some (groupAfter (e .keeps) (given e) (group l g))) (cond (e .removes g) none (group l g))
+  group-then : (g : ℕ) → group (apply p l e) g ≡ cond (mem g (e .makes)) (some (groupAfter (e .keeps) (given e) (group l g)))
+      (cond (e .removes g) none (group l g))
   group-then = group-after p laws l (f .standing) e
 
   mark-then : (g r : ℕ) → find samePair (apply p l e .pairs) (g, r) ≡ after (view l) e .mark g r

@@ -28,15 +28,27 @@ length-rows kind g radios = length-map (orders kind g radios) orderRow ∙ lengt
 
 pub paste-onto : {A : Type 0} (k s o : List A) (at n : ℕ) → at ≡ length k → n ≡ length s → paste (onto k o) at s n ≡ onto (k ++ s) o
 paste-onto k s o at n e m =
-    rw (e, m, take-append-seam k (drop (length k) o), take-length s, drop-append-add k (drop (length k) o) (length s), drop-drop (length s) (length k) o, length-append k s)
+    rw (
+      e,
+      m,
+      take-append-seam k (drop (length k) o),
+      take-length s,
+      drop-append-add k (drop (length k) o) (length s),
+      drop-drop (length s)
+          (length k) o,
+      length-append k s,
+    )
 
 -- one more order stands in the room
-pub push-turn : (radios : List ℕ) (out out₀ : List (List ℕ)) (at kind g i : ℕ) → i < length radios → at + length radios ≤ length out₀ → out ≡ paste out₀ at (map orderRow (orders kind g radios)) i → set out (at + i) (kind ∷ getD radios i 0 ∷ g ∷ []) ≡ paste out₀ at (map orderRow (orders kind g radios)) (i + 1)
+pub push-turn : (radios : List ℕ) (out out₀ : List (List ℕ)) (at kind g i : ℕ) → i < length radios → at + length radios ≤ length out₀
+    → out ≡ paste out₀ at (map orderRow (orders kind g radios)) i → set out (at + i) (kind ∷ getD radios i 0 ∷ g ∷ []) ≡ paste out₀ at
+    (map orderRow (orders kind g radios)) (i + 1)
 push-turn radios out out₀ at kind g i h r e =
     let rows = map orderRow (orders kind g radios) in
     let one : ℕ → Outgoing = λ r. record { kind = kind; radio = r; group = g } in
     let n : length rows ≡ length radios = length-map (orders kind g radios) orderRow ∙ length-map radios one in
-    let x : getD rows i (orderRow (one 0)) ≡ kind ∷ getD radios i 0 ∷ g ∷ [] = List·getD-map orderRow (orders kind g radios) i (one 0) ∙ ap orderRow (List·getD-map one radios i 0) in
+    let x : getD rows i (orderRow (one 0)) ≡ kind ∷ getD radios i 0 ∷ g ∷ [] = List·getD-map orderRow (orders kind g radios) i (one 0)
+    ∙ ap orderRow (List·getD-map one radios i 0) in
     rw add-one (ap (λ (z : List (List ℕ)). set z (at + i) (kind ∷ getD radios i 0 ∷ g ∷ [])) e
     ∙ ap (set (paste out₀ at rows i) (at + i)) (sym x)
     ∙ paste-suc out₀ at rows i (orderRow (one 0)) (omega arith) (omega arith))
@@ -51,7 +63,9 @@ module _ (f : ℕ → List Outgoing) (gs : List ℕ) where
       omega (arith, ap length e, length-append (join f (take i gs)) (join f (drop i gs)))
 
   -- a turn that lays the next group's orders
-  pub send-turn : (out out′ out₀ : List (List ℕ)) (i at n : ℕ) → i < length gs → at ≡ length (join f (take i gs)) → n ≡ length (f (getD gs i 0)) → out ≡ onto (map orderRow (join f (take i gs))) out₀ → out′ ≡ paste out at (map orderRow (f (getD gs i 0))) n → (at + n ≡ length (join f (take (i + 1) gs))) × (out′ ≡ onto (map orderRow (join f (take (i + 1) gs))) out₀)
+  pub send-turn : (out out′ out₀ : List (List ℕ)) (i at n : ℕ) → i < length gs → at ≡ length (join f (take i gs)) → n ≡ length (f (getD gs i 0))
+      → out ≡ onto (map orderRow (join f (take i gs))) out₀ → out′ ≡ paste out at (map orderRow (f (getD gs i 0))) n
+      → (at + n ≡ length (join f (take (i + 1) gs))) × (out′ ≡ onto (map orderRow (join f (take (i + 1) gs))) out₀)
   send-turn out out′ out₀ i at n h a m e d =
       let k = join f (take i gs) in
       let s = f (getD gs i 0) in

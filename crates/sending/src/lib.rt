@@ -18,7 +18,8 @@ pub const DEASSIGN: u64 = 1;
 // An order of this kind to each radio, from place `at` on.
 fn push_rows(out: &mut [[u64; ORDER_WORDS]], at: usize, kind: u64, group: GroupKey, radios: &[u64])
     requires { ⌜ at + length (now radios) ≤ length (now out) ⌝ }
-    ensures { λ _. ⌜ now (out .exit) ≡ paste (now (out .entry)) at (map orderRow (orders kind (group .0) (now (radios .entry)))) (length (now (radios .entry))) ⌝ }
+    ensures { λ _. ⌜ now (out .exit) ≡ paste (now (out .entry)) at (map orderRow (orders kind (group .0) (now (radios .entry))))
+        (length (now (radios .entry))) ⌝ }
 {
     let mut i: usize = 0;
     while i < radios.len() {

@@ -161,7 +161,9 @@ fn mark_ok(row: [u64; PAIR_WORDS]) -> bool
 // Whether a pair is in its form, its group there; its row is the row of the pair.
 fn pair_ok(groups: &[[u64; GROUP_WORDS]], count: usize, row: [u64; PAIR_WORDS]) -> bool
     requires { ⌜ count ≤ length (now groups) ⌝ }
-    ensures { λ r. ⌜ (r ≡ (not (wideKey (pairOf row .0 .1)) && (goodMark (pairOf row .1) && present (find eqb (groupsOf count (now (groups .entry))) (pairOf row .0 .0))))) × (pairRow (pairOf row) ≡ row) ⌝ }
+    ensures { λ r. ⌜ (r ≡
+        (not (wideKey (pairOf row .0 .1)) && (goodMark (pairOf row .1) && present (find eqb (groupsOf count (now (groups .entry))) (pairOf row .0 .0)))))
+        × (pairRow (pairOf row) ≡ row) ⌝ }
 {
     !(KEY_LIMIT <= row[PAIR_RADIO])
         & (mark_ok(row) & stands(group_place(groups, 0, count, GroupKey(row[PAIR_GROUP]))))
@@ -175,7 +177,8 @@ fn pairs_ok(
     count: usize,
 ) -> bool
     requires { ⌜ («group_count» ≤ length (now groups)) × (count ≤ length (now pairs)) ⌝ }
-    ensures { λ r. ⌜ (r ≡ goodPairs (groupsOf «group_count» (now (groups .entry))) (pairsOf count (now (pairs .entry)))) × (r ≡ true → Plain pairOf pairRow count (now (pairs .entry))) ⌝ }
+    ensures { λ r. ⌜ (r ≡ goodPairs (groupsOf «group_count» (now (groups .entry))) (pairsOf count (now (pairs .entry))))
+        × (r ≡ true → Plain pairOf pairRow count (now (pairs .entry))) ⌝ }
 {
     let mut i: usize = 0;
     while i < count {
@@ -205,7 +208,8 @@ pub fn roomy(head: &[u64], groups: &[[u64; GROUP_WORDS]], pairs: &[[u64; PAIR_WO
 
 // Whether the lent ledger is in its written form.
 pub fn written(head: &[u64], groups: &[[u64; GROUP_WORDS]], pairs: &[[u64; PAIR_WORDS]]) -> bool
-    ensures { λ r. ⌜ (r ≡ isWritten (contents (now (head .entry)) (now (groups .entry)) (now (pairs .entry)))) × (r ≡ true → Sound (contents (now (head .entry)) (now (groups .entry)) (now (pairs .entry)))) ⌝ }
+    ensures { λ r. ⌜ (r ≡ isWritten (contents (now (head .entry)) (now (groups .entry)) (now (pairs .entry))))
+        × (r ≡ true → Sound (contents (now (head .entry)) (now (groups .entry)) (now (pairs .entry)))) ⌝ }
 {
     if !roomy(head, groups, pairs) {
         return false;

@@ -10,7 +10,8 @@ use Rattle.desk.proofs.attend.Statement.{statement}
 use Rattle.desk.proofs.attend.Tie as tie
 
 abbrev Inv-loop : tie.InvT-loop
-Inv-loop line₀ head₀ groups₀ pairs₀ held₀ turns₀ line head groups pairs held turns = (length line ≡ length line₀) × (length head ≡ length head₀) × (length groups ≡ length groups₀) × (length pairs ≡ length pairs₀) × (held ≤ length line₀)
+Inv-loop line₀ head₀ groups₀ pairs₀ held₀ turns₀ line head groups pairs held turns = (length line ≡ length line₀) × (length head ≡ length head₀)
+    × (length groups ≡ length groups₀) × (length pairs ≡ length pairs₀) × (held ≤ length line₀)
 
 abbrev μ-loop : tie.MeasureT-loop
 μ-loop line₀ head₀ groups₀ pairs₀ held₀ turns₀ line head groups pairs held turns = turns
@@ -48,8 +49,10 @@ loop-less c = search needs
 loop-again : tie.Need-loop-again Inv-loop μ-loop
 loop-again c =
     let taken = c .before .before .before .before .before .before .before .before .before .turn in
-    let within : HeldIn (length (taken .last .0)) (Held (c .before .count .given .0 .0)) = subst (HeldIn (length (taken .last .0))) (c .before .count .given .1) (taken .ensures) in
-    let kept : length (taken .last .0) ≡ length (c .before .before .before .before .before .before .before .before .before .before .before .before .before .before .before .loop .line) = search needs in
+    let within : HeldIn (length (taken .last .0)) (Held (c .before .count .given .0 .0)) = subst (HeldIn (length (taken .last .0)))
+    (c .before .count .given .1) (taken .ensures) in
+    let kept : length (taken .last .0) ≡ length
+    (c .before .before .before .before .before .before .before .before .before .before .before .before .before .before .before .loop .line) = search needs in
     (search needs, search needs, search needs, search needs, omega arith)
 
 same-length-5 : tie.Need-same-length-5 Inv-loop μ-loop

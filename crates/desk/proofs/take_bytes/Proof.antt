@@ -10,7 +10,8 @@ use Rattle.desk.proofs.take_bytes.Statement.{statement}
 use Rattle.desk.proofs.take_bytes.Tie as tie
 
 abbrev Inv-loop : tie.InvT-loop
-Inv-loop bytes line₀ held head₀ groups₀ pairs₀ count₀ i₀ line head groups pairs count i = (length line ≡ length line₀) × (length head ≡ length head₀) × (length groups ≡ length groups₀) × (length pairs ≡ length pairs₀) × (count ≤ length line₀)
+Inv-loop bytes line₀ held head₀ groups₀ pairs₀ count₀ i₀ line head groups pairs count i = (length line ≡ length line₀) × (length head ≡ length head₀)
+    × (length groups ≡ length groups₀) × (length pairs ≡ length pairs₀) × (count ≤ length line₀)
 
 abbrev μ-loop : tie.MeasureT-loop
 μ-loop bytes line₀ held head₀ groups₀ pairs₀ count₀ i₀ line head groups pairs count i = length bytes - i
@@ -51,8 +52,10 @@ loop-less c = search needs
 loop-again : tie.Need-loop-again Inv-loop μ-loop
 loop-again c =
     let taken = c .before .before .before .before .before .before .before .before .before .take-byte in
-    let within : HeldIn (length (taken .last .1 .0)) (Held (c .before .left .given .0 .0)) = subst (HeldIn (length (taken .last .1 .0))) (c .before .left .given .1) (taken .ensures) in
-    let kept : length (taken .last .1 .0) ≡ length (c .before .before .before .before .before .before .before .before .before .before .before .before .before .before .before .before .loop .line) = search needs in
+    let within : HeldIn (length (taken .last .1 .0)) (Held (c .before .left .given .0 .0)) = subst (HeldIn (length (taken .last .1 .0)))
+    (c .before .left .given .1) (taken .ensures) in
+    let kept : length (taken .last .1 .0) ≡ length
+    (c .before .before .before .before .before .before .before .before .before .before .before .before .before .before .before .before .loop .line) = search needs in
     (search needs, search needs, search needs, search needs, omega arith)
 
 same-length-5 : tie.Need-same-length-5 Inv-loop μ-loop

@@ -23,7 +23,8 @@ array-share-prefix-group-key : tie.Need-array-share-prefix-group-key
 array-share-prefix-group-key c =
     let n : length (c .before .before .before .before .before .before .args .groups .key) ≡ 10 = search needs in
     let h = few-groups (c .before .before .before .before .before .before .args .groups) n in
-    let few : c .before .before .before .group-count .result ≤ length (c .before .before .before .before .before .before .args .groups .key) = omega (arith, n, h, c .before .before .before .group-count .ensures) in
+    let few : c .before .before .before .group-count .result ≤ length (c .before .before .before .before .before .before .args .groups .key) = omega
+    (arith, n, h, c .before .before .before .group-count .ensures) in
     few
 
 slice-aggregate-turn-rows : tie.Need-slice-aggregate-turn-rows
@@ -31,13 +32,15 @@ slice-aggregate-turn-rows c =
     let a = c .before .before .before .before .before .before .before .args in
     let n : length (a .groups .key) ≡ 10 = search needs in
     let h = few-groups (a .groups) n in
-    sym (length-take-le (c .before .before .before .before .group-count .result) (a .groups .key) (omega (arith, n, h, c .before .before .before .before .group-count .ensures)))
+    sym (length-take-le (c .before .before .before .before .group-count .result) (a .groups .key)
+    (omega (arith, n, h, c .before .before .before .before .group-count .ensures)))
 
 array-share-prefix-radio-key : tie.Need-array-share-prefix-radio-key
 array-share-prefix-radio-key c =
     let n : length (c .before .before .before .before .before .before .before .args .radios .key) ≡ 10 = search needs in
     let h = few-radios (c .before .before .before .before .before .before .before .args .radios) n in
-    let few : c .before .before .radio-count .result ≤ length (c .before .before .before .before .before .before .before .args .radios .key) = omega (arith, n, h, c .before .before .radio-count .ensures) in
+    let few : c .before .before .radio-count .result ≤ length (c .before .before .before .before .before .before .before .args .radios .key) = omega
+    (arith, n, h, c .before .before .radio-count .ensures) in
     few
 
 slice-aggregate-turn-rows-2 : tie.Need-slice-aggregate-turn-rows-2
@@ -45,7 +48,8 @@ slice-aggregate-turn-rows-2 c =
     let a = c .before .before .before .before .before .before .before .before .args in
     let n : length (a .radios .key) ≡ 10 = search needs in
     let h = few-radios (a .radios) n in
-    sym (length-take-le (c .before .before .before .radio-count .result) (a .radios .key) (omega (arith, n, h, c .before .before .before .radio-count .ensures)))
+    sym (length-take-le (c .before .before .before .radio-count .result) (a .radios .key)
+    (omega (arith, n, h, c .before .before .before .radio-count .ensures)))
 
 turn-rows-requires : tie.Need-turn-rows-requires
 turn-rows-requires c κs = search needs
@@ -56,9 +60,12 @@ same-length c = search needs
 returns : tie.Need-returns
 returns c =
     let a = c .before .before .before .before .before .before .before .before .before .before .args in
-    let g = front (a .groups .count) (c .before .before .before .before .before .before .before .group-count .result) (a .groups .key) (c .before .before .before .before .before .before .before .group-count .ensures) in
-    let r = front (a .radios .count) (c .before .before .before .before .before .radio-count .result) (a .radios .key) (c .before .before .before .before .before .radio-count .ensures) in
-    let p = whole (a .count) (c .before .before .before .before .before .before .before .before .before .lesser .result) (a .pairs .now) (c .before .before .before .before .before .before .before .before .before .lesser .ensures) in
+    let g = front (a .groups .count) (c .before .before .before .before .before .before .before .group-count .result) (a .groups .key)
+    (c .before .before .before .before .before .before .before .group-count .ensures) in
+    let r = front (a .radios .count) (c .before .before .before .before .before .radio-count .result) (a .radios .key)
+    (c .before .before .before .before .before .radio-count .ensures) in
+    let p = whole (a .count) (c .before .before .before .before .before .before .before .before .before .lesser .result) (a .pairs .now)
+    (c .before .before .before .before .before .before .before .before .before .lesser .ensures) in
     rw (g, r, p) at (c .before .turn-rows .ensures)
 
 pub turn-pairs-spec : {M : Type 1} → statement M

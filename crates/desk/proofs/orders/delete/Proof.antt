@@ -45,7 +45,8 @@ array-borrow-prefix-rows c =
 slice-aggregate-delete-by : tie.Need-slice-aggregate-delete-by
 slice-aggregate-delete-by c =
     let room = c .before .before .before .before .before .before .before .before .before .before .before .before .before .before .room in
-    sym (length-take-le _ _ (omega (arith, room-most _ _ (room .result) (room .ensures), c .before .before .before .before .before .before .order-places .ensures)))
+    sym (length-take-le _ _
+    (omega (arith, room-most _ _ (room .result) (room .ensures), c .before .before .before .before .before .before .order-places .ensures)))
 
 delete-by-requires : tie.Need-delete-by-requires
 delete-by-requires c κs = c .before .before .before .before .before .before .before .before .before .before .before .before .before .before .before .before .before .before .before .before .pre

@@ -44,7 +44,8 @@ returns c =
     let e = c .before .before .before .before .before .lesser in
     let l = c .before .before .before .before .loop in
     let h : e .result ≤ length (a .groups .now) = omega (arith, e .ensures) in
-    rw (eq-eqb _ _ (c .if1 .taken)) at (walk-turn groupOf (λ z. placeOf eqb z (a .group .0) (l .i)) (a .groups .now) (e .result) (l .i) [] _ (search needs) h (l .inv))
+    rw (eq-eqb _ _ (c .if1 .taken)) at
+    (walk-turn groupOf (λ z. placeOf eqb z (a .group .0) (l .i)) (a .groups .now) (e .result) (l .i) [] _ (search needs) h (l .inv))
 
 add-i : tie.Need-add-i Inv-loop μ-loop
 add-i c = search needs
@@ -59,7 +60,8 @@ loop-again c =
     let e = c .before .before .before .before .before .lesser in
     let l = c .before .before .before .before .loop in
     let h : e .result ≤ length (a .groups .now) = omega (arith, e .ensures) in
-    rw (ne-eqb _ _ (c .if1 .left)) at (walk-turn groupOf (λ z. placeOf eqb z (a .group .0) (l .i)) (a .groups .now) (e .result) (l .i) [] _ (search needs) h (l .inv))
+    rw (ne-eqb _ _ (c .if1 .left)) at
+    (walk-turn groupOf (λ z. placeOf eqb z (a .group .0) (l .i)) (a .groups .now) (e .result) (l .i) [] _ (search needs) h (l .inv))
 
 returns-2 : tie.Need-returns-2 Inv-loop μ-loop
 returns-2 c =

@@ -13,7 +13,8 @@ use Rattle.store.proofs.places.pair_place.Statement.{statement}
 use Rattle.store.proofs.places.pair_place.Tie as tie
 
 abbrev Inv-loop : tie.InvT-loop
-Inv-loop pairs from count group radio end i₀ i = placeOf samePair (pairsFrom i end pairs) (group .0, radio .0) i ≡ placeOf samePair (pairsFrom from count pairs) (group .0, radio .0) from
+Inv-loop pairs from count group radio end i₀ i = placeOf samePair (pairsFrom i end pairs) (group .0, radio .0) i ≡ placeOf samePair
+    (pairsFrom from count pairs) (group .0, radio .0) from
 
 abbrev μ-loop : tie.MeasureT-loop
 μ-loop pairs from count group radio end i₀ i = end - i
@@ -42,7 +43,8 @@ returns c =
     let e = c .before .before .before .before .before .lesser in
     let l = c .before .before .before .before .loop in
     let h : e .result ≤ length (a .pairs .now) = omega (arith, e .ensures) in
-    rw (sym (c .before .is-pair .ensures) ∙ c .if1 .taken) at (walk-turn pairOf (λ z. placeOf samePair z (a .group .0, a .radio .0) (l .i)) (a .pairs .now) (e .result) (l .i) [] _ (search needs) h (l .inv))
+    rw (sym (c .before .is-pair .ensures) ∙ c .if1 .taken) at
+    (walk-turn pairOf (λ z. placeOf samePair z (a .group .0, a .radio .0) (l .i)) (a .pairs .now) (e .result) (l .i) [] _ (search needs) h (l .inv))
 
 add-i : tie.Need-add-i Inv-loop μ-loop
 add-i c = search needs
@@ -56,7 +58,8 @@ loop-again c =
     let e = c .before .before .before .before .before .lesser in
     let l = c .before .before .before .before .loop in
     let h : e .result ≤ length (a .pairs .now) = omega (arith, e .ensures) in
-    rw (sym (c .before .is-pair .ensures) ∙ c .if1 .left) at (walk-turn pairOf (λ z. placeOf samePair z (a .group .0, a .radio .0) (l .i)) (a .pairs .now) (e .result) (l .i) [] _ (search needs) h (l .inv))
+    rw (sym (c .before .is-pair .ensures) ∙ c .if1 .left) at
+    (walk-turn pairOf (λ z. placeOf samePair z (a .group .0, a .radio .0) (l .i)) (a .pairs .now) (e .result) (l .i) [] _ (search needs) h (l .inv))
 
 returns-2 : tie.Need-returns-2 Inv-loop μ-loop
 returns-2 c =
