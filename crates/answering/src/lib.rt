@@ -15,6 +15,8 @@ use rows::GROUP_WORDS;
 use rows::MAX_LISTED;
 use rows::PAIR_COUNT;
 use rows::PAIR_WORDS;
+use rows::UNHEARD;
+use rows::WAITING;
 use store::Found;
 use store::form::roomy;
 use store::form::written;
@@ -29,11 +31,6 @@ ghost use Rattle.order.specs.Steps.{answerStep};
 ghost use Rattle.store.specs.Storage.{contents};
 ghost use Rattle.replies.specs.Orders.{Begins, Judges, Replies};
 ghost use Rattle.answering.specs.Answers.{answerTurn, foundOpen};
-
-// The states in which an assignment is open.
-const WAITING: u64 = 1;
-
-const UNHEARD: u64 = 3;
 
 // The most that a result can be.
 const LAST_RESULT: u64 = 4;

@@ -63,6 +63,15 @@ pub const PAIR_STATE: usize = 2;
 
 pub const PAIR_TICKS: usize = 3;
 
+// The states of a pair that code looks at: waiting, confirmed, unheard; and T1, the ticks after which a waiting pair is unheard.
+pub const WAITING: u64 = 1;
+
+pub const CONFIRMED: u64 = 2;
+
+pub const UNHEARD: u64 = 3;
+
+pub const T1: u64 = 30;
+
 // The lesser of two numbers.
 pub fn lesser(a: usize, b: usize) -> usize
     ensures { λ r. ⌜ r ≡ min a b ⌝ }

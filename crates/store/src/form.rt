@@ -28,7 +28,10 @@ use rows::PAIR_STATE;
 use rows::PAIR_TICKS;
 use rows::PAIR_WORDS;
 use rows::REFERENCE_WORD;
+use rows::T1;
 use rows::TEMPORARY_WORD;
+use rows::UNHEARD;
+use rows::WAITING;
 ghost use Prim.Native.Nat.{_≤_};
 ghost use lib.Dec.{eqb, leb};
 ghost use lib.ListN.{length, getD, take, drop};
@@ -46,13 +49,6 @@ ghost use Rattle.store.specs.Storage.{contents, pairOf, pairRow, pairsOf
 
 // The first key that does not fit 24 bits.
 const KEY_LIMIT: u64 = 0x100_0000;
-
-// The states, and the ticks after which a waiting pair is unheard.
-const WAITING: u64 = 1;
-
-const UNHEARD: u64 = 3;
-
-const T1: u64 = 30;
 
 // Whether a word of a list is at least `bound`.
 fn large(list: &[u64], bound: u64) -> bool

@@ -14,14 +14,14 @@ use replies::Members;
 use replies::Reply;
 use replies::Sent;
 use replies::Shown;
+use rows::ENTRY_WORDS;
+use rows::MAX_PAIRS;
+use rows::ORDER_WORDS;
 ghost use mathlib.Core.Path.{_≡_};
 ghost use Prim.Native.Nat.{_≤_, min};
 ghost use lib.ListN.{length};
 ghost use Rattle.text.specs.Text.{most, refusalText, replyText, sentText, listedText, shownText};
 ghost use Rattle.text.specs.Put.{Put, Replied, longest};
-
-// The most orders or radios of a reply.
-pub const PLACES: usize = 2048;
 
 // The longest reply: A, and as many orders of 16 bytes.
 const LONGEST: usize = 32769;
@@ -37,7 +37,7 @@ fn least(a: usize, b: usize) -> usize
 fn fitting(count: usize, there: usize) -> usize
     ensures { λ r. ⌜ r ≡ min count (min most there) ⌝ }
 {
-    least(count, least(PLACES, there))
+    least(count, least(MAX_PAIRS, there))
 }
 
 // R and the refusal's number, in decimal; no number has more than two digits.
@@ -81,7 +81,7 @@ pub fn put_reply(reply: Reply, out: &mut [u8]) -> usize
 }
 
 // What an order that sends is answered with; its orders are the first rows, no more than there are.
-pub fn put_sent(sent: Sent, rows: &[[u64; 3]], out: &mut [u8]) -> usize
+pub fn put_sent(sent: Sent, rows: &[[u64; ORDER_WORDS]], out: &mut [u8]) -> usize
     ensures { λ r. ⌜ Replied (sentText sent (now (rows .entry))) (now (out .entry)) (now (out .exit)) r ⌝ }
 {
     if out.len() < LONGEST {
@@ -94,7 +94,7 @@ pub fn put_sent(sent: Sent, rows: &[[u64; 3]], out: &mut [u8]) -> usize
 }
 
 // What a list is answered with; its radios are the first rows, no more than there are.
-pub fn put_listed(members: Members, rows: &[[u64; 2]], out: &mut [u8]) -> usize
+pub fn put_listed(members: Members, rows: &[[u64; ENTRY_WORDS]], out: &mut [u8]) -> usize
     ensures { λ r. ⌜ Replied (listedText members (now (rows .entry))) (now (out .entry)) (now (out .exit)) r ⌝ }
 {
     if out.len() < LONGEST {

@@ -2,6 +2,8 @@
 use crate::pieces::put_byte;
 use crate::pieces::put_digits;
 use crate::pieces::put_number;
+use rows::ENTRY_WORDS;
+use rows::ORDER_WORDS;
 ghost use mathlib.Core.Path.{_≡_};
 ghost use Prim.Native.Nat.{_+_, _≤_};
 ghost use lib.ListN.{length, take};
@@ -26,7 +28,7 @@ fn put_kind(kind: u64, out: &mut [u8], at: usize) -> usize
 }
 
 // An order: its kind, radio and group.
-fn put_order(row: [u64; 3], out: &mut [u8], at: usize) -> usize
+fn put_order(row: [u64; ORDER_WORDS], out: &mut [u8], at: usize) -> usize
     requires { ⌜ at + 16 ≤ length (now out) ⌝ }
     ensures { λ r. ⌜ Put (orderText row) (now (out .entry)) (now (out .exit)) at r ⌝ }
 {
@@ -36,7 +38,7 @@ fn put_order(row: [u64; 3], out: &mut [u8], at: usize) -> usize
 }
 
 // A and the first `count` orders.
-pub fn put_orders(rows: &[[u64; 3]], count: usize, out: &mut [u8]) -> usize
+pub fn put_orders(rows: &[[u64; ORDER_WORDS]], count: usize, out: &mut [u8]) -> usize
     requires { ⌜ (count ≤ length (now rows)) × (count ≤ most) × (longest ≤ length (now out)) ⌝ }
     ensures { λ r. ⌜ (r ≤ longest) × Put (rowsText orderText (take count (now (rows .entry)))) (now (out .entry)) (now (out .exit)) 0 r ⌝ }
 {
@@ -50,7 +52,7 @@ pub fn put_orders(rows: &[[u64; 3]], count: usize, out: &mut [u8]) -> usize
 }
 
 // A radio and its state.
-fn put_member(row: [u64; 2], out: &mut [u8], at: usize) -> usize
+fn put_member(row: [u64; ENTRY_WORDS], out: &mut [u8], at: usize) -> usize
     requires { ⌜ at + 9 ≤ length (now out) ⌝ }
     ensures { λ r. ⌜ Put (memberText row) (now (out .entry)) (now (out .exit)) at r ⌝ }
 {
@@ -60,7 +62,7 @@ fn put_member(row: [u64; 2], out: &mut [u8], at: usize) -> usize
 }
 
 // A and the first `count` radios.
-pub fn put_members(rows: &[[u64; 2]], count: usize, out: &mut [u8]) -> usize
+pub fn put_members(rows: &[[u64; ENTRY_WORDS]], count: usize, out: &mut [u8]) -> usize
     requires { ⌜ (count ≤ length (now rows)) × (count ≤ most) × (longest ≤ length (now out)) ⌝ }
     ensures { λ r. ⌜ (r ≤ longest) × Put (rowsText memberText (take count (now (rows .entry)))) (now (out .entry)) (now (out .exit)) 0 r ⌝ }
 {

@@ -6,6 +6,8 @@ use crate::pieces::put_digits;
 use crate::pieces::put_number;
 use crate::pieces::put_text;
 use replies::Shown;
+use rows::MAX_LETTERS;
+use rows::MAX_OWNERS;
 ghost use mathlib.Core.Path.{_≡_};
 ghost use Prim.Native.Nat.{_+_, _≤_};
 ghost use lib.ListN.{length, take};
@@ -45,7 +47,7 @@ fn late(class: u64, lifetime: u64, temporary: u64) -> [u8; 31]
 }
 
 // The first `count` owners, parted by commas.
-fn put_owners(owners: [u64; 11], count: usize, out: &mut [u8], at: usize) -> usize
+fn put_owners(owners: [u64; MAX_OWNERS], count: usize, out: &mut [u8], at: usize) -> usize
     requires { ⌜ (count ≤ 11) × (at + 77 ≤ length (now out)) ⌝ }
     ensures { λ r. ⌜ (r ≤ at + 77) × Put (ownersText (take count owners)) (now (out .entry)) (now (out .exit)) at r ⌝ }
 {
@@ -62,7 +64,7 @@ fn put_owners(owners: [u64; 11], count: usize, out: &mut [u8], at: usize) -> usi
 }
 
 // The first `count` letters, two digits each; a name without letters is absent.
-fn put_name(name: [u64; 16], count: usize, out: &mut [u8], at: usize) -> usize
+fn put_name(name: [u64; MAX_LETTERS], count: usize, out: &mut [u8], at: usize) -> usize
     requires { ⌜ (count ≤ 16) × (at + 32 ≤ length (now out)) ⌝ }
     ensures { λ r. ⌜ (r ≤ at + 32) × Put (nameText (take count name)) (now (out .entry)) (now (out .exit)) at r ⌝ }
 {
@@ -85,7 +87,7 @@ pub fn put_front(shown: Shown, out: &mut [u8]) -> usize
 {
     let owners = shown.owners;
     let at = put_text(b"A owners=", out, 0);
-    let at = put_owners(owners, least(shown.count, 11), out, at);
+    let at = put_owners(owners, least(shown.count, MAX_OWNERS), out, at);
     let values = early(shown.reference, shown.acknowledged, shown.broadcast);
     put_text(&values, out, at)
 }
@@ -97,7 +99,7 @@ pub fn put_back(shown: Shown, out: &mut [u8], at: usize) -> usize
 {
     let name = shown.name;
     let at = put_text(b" name=", out, at);
-    let at = put_name(name, least(shown.letters as usize, 16), out, at);
+    let at = put_name(name, least(shown.letters as usize, MAX_LETTERS), out, at);
     let values = late(shown.class, shown.lifetime, shown.temporary);
     put_text(&values, out, at)
 }

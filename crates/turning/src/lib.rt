@@ -4,11 +4,15 @@ use order::Radios;
 use order::keys::group_count;
 use order::keys::radio_count;
 use order::lists::member;
+use rows::CONFIRMED;
 use rows::PAIR_GROUP;
 use rows::PAIR_RADIO;
 use rows::PAIR_STATE;
 use rows::PAIR_TICKS;
 use rows::PAIR_WORDS;
+use rows::T1;
+use rows::UNHEARD;
+use rows::WAITING;
 use rows::lesser;
 ghost use Prim.Native.Nat.{_≤_};
 ghost use lib.ListN.{length, getD};
@@ -32,14 +36,8 @@ pub enum Turn {
     LeaveAll,
 }
 
-// The states, and the last tick that a waiting pair counts.
-const WAITING: u64 = 1;
-
-const CONFIRMED: u64 = 2;
-
-const UNHEARD: u64 = 3;
-
-const LAST_TICK: u64 = 29;
+// The last tick that a waiting pair counts.
+const LAST_TICK: u64 = T1 - 1;
 
 // A waiting pair counts one; at its 30th tick it is unheard.
 fn ticked_row(row: [u64; PAIR_WORDS]) -> [u64; PAIR_WORDS]
