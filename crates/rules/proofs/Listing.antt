@@ -127,10 +127,3 @@ listed-members l g s = same-entries (listedIn g (l .pairs)) (entries (view l) (m
     (subst Rising (sym (entries-radios (view l) g (members l g))) (rising-rising (radiosOf g (l .pairs))))
     (λ r. find-order (gathered g (l .pairs)) (gathered-single g (l .pairs) s) r ∙ gathered-find g (l .pairs) r
     ∙ sym (entries-say (view l) g (members l g) (λ r. mem-rising r (radiosOf g (l .pairs)) ∙ mem-radios g r (l .pairs)) r))
-
-pub length-listed : (l : Ledger) (g : ℕ) → Single samePair (l .pairs) → length (listedIn g (l .pairs)) ≡ length (members l g)
-length-listed l g s = ap length (listed-members l g s) ∙ each (members l g)
-  where
-    each : (radios : List ℕ) → length (entries (view l) radios g) ≡ length radios
-    each [] = refl
-    each (r ∷ k) = ap suc (each k)
