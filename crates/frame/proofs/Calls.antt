@@ -13,7 +13,6 @@ use lib.Dec.{T}
 use lib.ListN.{length, take, drop}
 use Rattle.bits.specs.Bits.{bitsOf, bytesFor, bytesOf}
 use Rattle.layout.specs.declared.Kind.{Kind}
-use Rattle.layout.specs.declared.Record.{Record}
 use Rattle.layout.specs.declared.Reading.{Reading}
 use Rattle.layout.specs.declared.Verdict.the-variants.{Frame}
 use Rattle.layout.specs.declared.Written.{Written}
@@ -30,39 +29,40 @@ use Rattle.frame.proofs.write.Reads as write
 abbrev AfterRead : Lfts 1 → Type 0
 AfterRead = AtExit (endedOf 1 read-kinds.ps read-kinds.r)
 
-abbrev AfterWrite : Lfts 1 → Type 0
-AfterWrite = AtExit (endedOf 1 write-kinds.ps write-kinds.r)
+abbrev AfterWrite : Lfts 2 → Type 0
+AfterWrite = AtExit (endedOf 2 write-kinds.ps write-kinds.r)
 
-module _ (κs λs : Lfts 1) (kind : Kind) (out frame : RefT (List ℕ)) (start count : ℕ) (reading : Reading) (left : AfterWrite κs) (after : AfterRead λs) where
+module _ (κs : Lfts 2) (λs : Lfts 1) (kind : Kind) (values out frame : RefT (List ℕ)) (start count : ℕ) (reading : Reading) (left : AfterWrite κs) (after : AfterRead λs) where
   -- what `write` made, `read` returns: the record, with 0 at the places that are not used
-  pub made-then-read : (values : Record) → write.Post κs (kind, (values, (out, (start, tt)))) (Bits count) left
+  pub made-then-read : write.Post κs (kind, (values, (out, (start, tt)))) (Bits count) left
       → now frame ≡ drop start (now (left .1 .1 .0))
       → read.Post λs (kind, (frame, (count, tt))) reading after
-      → reading ≡ readAs (clean kind (values .place))
-  made-then-read values w here r =
+      → reading ≡ readAs (clean kind (now values))
+  made-then-read w here r =
       r ∙ ap (λ (bytes : List ℕ). readingOf kind bytes count) (here ∙ ap (drop start) (w .1))
-      ∙ write-then-read kind (values .place) (now out) start count (sym (w .0))
+      ∙ write-then-read kind (now values) (now out) start count (sym (w .0))
 
   -- what `read` took, `write` makes again where there is room: the same bits, and 0 in the spare bits of the last byte
   pub taken-then-written : (written : Written) → read.Post λs (kind, (frame, (count, tt))) reading after
       → reading .verdict ≡ Frame
-      → write.Post κs (kind, (reading .values, (out, (start, tt)))) written left
+      → now values ≡ reading .values .place
+      → write.Post κs (kind, (values, (out, (start, tt)))) written left
       → start + bytesFor count ≤ length (now out)
       → (written ≡ Bits count)
       × (now (left .1 .1 .0) ≡ take start (now out) ++ (bytesOf (take count (bitsOf (now frame))) ++ drop (start + bytesFor count) (now out)))
-  taken-then-written written r taken w fit =
+  taken-then-written written r taken same w fit =
       let found : readingOf kind (now frame) count .verdict ≡ Frame = ap (λ (x : Reading). x .verdict) (sym r) ∙ taken in
-      let again : MadeAgain kind (now frame) count (reading .values .place) = rw r (read-then-write kind (now frame) count found) in
+      let again : MadeAgain kind (now frame) count (now values) = rw (same, r) (read-then-write kind (now frame) count found) in
       (w .0 ∙ again .told (now out) start fit, w .1 ∙ again .made (now out) start fit)
 
   -- a record that has a frame, with room for it, is written, with its length: a writer that refuses everything is none
-  pub valid-is-written : (values : Record) (written : Written) → T (valid kind (values .place))
-      → start + bytesFor (length (spec.write kind (values .place))) ≤ length (now out)
+  pub valid-is-written : (written : Written) → T (valid kind (now values))
+      → start + bytesFor (length (spec.write kind (now values))) ≤ length (now out)
       → write.Post κs (kind, (values, (out, (start, tt)))) written left
-      → written ≡ Bits (length (spec.write kind (values .place)))
-  valid-is-written values written good fit w =
-      let n = length (spec.write kind (values .place)) in
-      w .0 ∙ write-fits kind (values .place) n (valid-judged kind (values .place) good) refl (length (now out)) start fit
+      → written ≡ Bits (length (spec.write kind (now values)))
+  valid-is-written written good fit w =
+      let n = length (spec.write kind (now values)) in
+      w .0 ∙ write-fits kind (now values) n (valid-judged kind (now values) good) refl (length (now out)) start fit
 
   -- bits that are a frame are taken: a reader that refuses everything is none
   pub frame-is-taken : (s : List ℕ) → count ≤ 8 * length (now frame) → spec.read kind (take count (bitsOf (now frame))) ≡ answer.frame s

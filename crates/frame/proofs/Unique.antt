@@ -23,10 +23,10 @@ module _ (κs : Lfts 1) (a : Dens κs read-kinds.ps) (r r′ : resT read-kinds.r
   pub read-unique : read.Post κs a r s → read.Post κs a r′ s′ → r ≡ r′
   read-unique p q = p ∙ sym q
 
-module _ (κs : Lfts 0) (a : Dens κs fault-kinds.ps) (r r′ : resT fault-kinds.r κs .Denot) (s s′ : AtExit (endedOf 0 fault-kinds.ps fault-kinds.r) κs) where
+module _ (κs : Lfts 1) (a : Dens κs fault-kinds.ps) (r r′ : resT fault-kinds.r κs .Denot) (s s′ : AtExit (endedOf 1 fault-kinds.ps fault-kinds.r) κs) where
   pub fault-unique : fault.Post κs a r s → fault.Post κs a r′ s′ → r ≡ r′
   fault-unique p q = p ∙ sym q
 
-module _ (κs : Lfts 1) (a : Dens κs write-kinds.ps) (r r′ : resT write-kinds.r κs .Denot) (s s′ : AtExit (endedOf 1 write-kinds.ps write-kinds.r) κs) where
+module _ (κs : Lfts 2) (a : Dens κs write-kinds.ps) (r r′ : resT write-kinds.r κs .Denot) (s s′ : AtExit (endedOf 2 write-kinds.ps write-kinds.r) κs) where
   pub write-unique : write.Post κs a r s → write.Post κs a r′ s′ → (r ≡ r′) × (now (s .1 .1 .0) ≡ now (s′ .1 .1 .0))
   write-unique p q = (p .0 ∙ sym (q .0), p .1 ∙ sym (q .1))

@@ -31,16 +31,16 @@ pub fn read(kind: Kind, frame: &[u8], bits: usize) -> Reading
 }
 
 // Whether a record has a code: 4 over the whole record, then 5.
-pub fn fault(kind: Kind, values: Record) -> Judged
-    ensures { λ r. ⌜ r ≡ judgedOf kind (values .place) ⌝ }
+pub fn fault(kind: Kind, values: &[u32; PLACES]) -> Judged
+    ensures { λ r. ⌜ r ≡ judgedOf kind (now (values .entry)) ⌝ }
 {
-    judge_record(kind, &values.place)
+    judge_record(kind, values)
 }
 
 // Writes a record's frame into `out` from the byte `start` on; refusals 4, 5 and 8 leave `out` as it is.
-pub fn write(kind: Kind, values: Record, out: &mut [u8], start: usize) -> Written
-    ensures { λ r. ⌜ (r ≡ writtenOf kind (values .place) (length (now (out .entry))) start)
-        × (now (out .exit) ≡ outputOf kind (values .place) (now (out .entry)) start) ⌝ }
+pub fn write(kind: Kind, values: &[u32; PLACES], out: &mut [u8], start: usize) -> Written
+    ensures { λ r. ⌜ (r ≡ writtenOf kind (now (values .entry)) (length (now (out .entry))) start)
+        × (now (out .exit) ≡ outputOf kind (now (values .entry)) (now (out .entry)) start) ⌝ }
 {
-    write_record(kind, &values.place, out, start)
+    write_record(kind, values, out, start)
 }
