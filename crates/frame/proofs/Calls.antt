@@ -32,7 +32,8 @@ AfterRead = AtExit (endedOf 1 read-kinds.ps read-kinds.r)
 abbrev AfterWrite : Lfts 2 → Type 0
 AfterWrite = AtExit (endedOf 2 write-kinds.ps write-kinds.r)
 
-module _ (κs : Lfts 2) (λs : Lfts 1) (kind : Kind) (values out frame : RefT (List ℕ)) (start count : ℕ) (reading : Reading) (left : AfterWrite κs) (after : AfterRead λs) where
+module _ (κs : Lfts 2) (λs : Lfts 1) (kind : Kind) (values out frame : RefT (List ℕ)) (start count : ℕ) (reading : Reading)
+    (left : AfterWrite κs) (after : AfterRead λs) where
   -- what `write` made, `read` returns: the record, with 0 at the places that are not used
   pub made-then-read : write.Post κs (kind, (values, (out, (start, tt)))) (Bits count) left
       → now frame ≡ drop start (now (left .1 .1 .0))

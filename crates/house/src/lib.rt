@@ -1,6 +1,6 @@
 // House text: one frame a line, in upper-case hexadecimal digits.
 use frame::Kind;
-use frame::Record;
+use frame::PLACES;
 use frame::Verdict;
 use frame::Written;
 use frame::read;
@@ -252,9 +252,9 @@ fn accept(kind: Kind, bits: usize, bytes: &[u8], out: &mut [u8]) -> usize
 }
 
 // Answers with the line that the writer makes of a record.
-fn remake(kind: Kind, values: Record, out: &mut [u8]) -> usize
+fn remake(kind: Kind, values: &[u32; PLACES], out: &mut [u8]) -> usize
     requires { ⌜ 433 ≤ length (now out) ⌝ }
-    ensures { λ r. ⌜ Sent (anew kind (values .place)) (now (out .entry)) (now (out .exit)) r ⌝ }
+    ensures { λ r. ⌜ Sent (anew kind (now (values .entry))) (now (out .entry)) (now (out .exit)) r ⌝ }
 {
     let mut bytes = [0u8; FRAME_BYTES];
     match write(kind, values, &mut bytes, 0) {
@@ -271,7 +271,7 @@ fn answer(kind: Kind, frame: &[u8], bits: usize, out: &mut [u8]) -> usize
     let reading = read(kind, frame, bits);
     let verdict = reading.verdict;
     match verdict {
-        Verdict::Frame => remake(kind, reading.values, out),
+        Verdict::Frame => remake(kind, &reading.values.place, out),
         Verdict::Refused(refusal) => refuse(refusal, out),
     }
 }

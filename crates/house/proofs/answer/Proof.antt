@@ -26,9 +26,9 @@ same-length c = search needs
 
 returns : tie.Need-returns
 returns c =
-    let found = c .before .before .before .before .before .before in
+    let found = c .before .before .before .before .before .before .before .before in
     let kind = found .before .before .before .args .kind in
-    let verdict = ap (told kind (found .read .result .values .place)) (c .before .before .before .before .enum-told .given .1) in
+    let verdict = ap (told kind (found .read .result .values .place)) (c .before .before .before .before .before .before .enum-told .given .1) in
     sent (sym (ap (answerTo kind) (found .read .ensures)) ∙ verdict) (c .before .before .remake .ensures)
 
 same-length-2 : tie.Need-same-length-2

@@ -38,7 +38,7 @@ returns c =
     let wrote = c .before .before .before .before .before .before .before .before .before .write in
     let bits = c .before .before .before .before .before .before .bits .given in
     sent
-    (ap (made (given .kind) (given .values .place)) (sym (wrote .ensures .0) ∙ bits .1)
+    (ap (made (given .kind) (given .values .now)) (sym (wrote .ensures .0) ∙ bits .1)
     ∙ ap (λ bytes. taken (given .kind) (bits .0 .0) (take (bytesFor (bits .0 .0)) bytes)) (sym (wrote .ensures .1)))
     (c .before .before .accept .ensures)
 
@@ -49,7 +49,7 @@ returns-2 : tie.Need-returns-2
 returns-2 c =
     let given = c .before .before .before .before .before .before .before .before .before .before .before .args in
     let wrote = c .before .before .before .before .before .before .before .before .write in
-    sent (ap (made (given .kind) (given .values .place)) (sym (wrote .ensures .0) ∙ c .before .before .before .before .before .refusal .given .1)) (c .before .before .refuse .ensures)
+    sent (ap (made (given .kind) (given .values .now)) (sym (wrote .ensures .0) ∙ c .before .before .before .before .before .refusal .given .1)) (c .before .before .refuse .ensures)
 
 pub remake-spec : {M : Type 1} → statement M
 remake-spec =
