@@ -112,7 +112,7 @@ fn identity(values: Record, place: usize) -> Record
 fn run(name: &[u8], values: Record) {
     let mut out = [FILLER; 256];
     io::write_all(1, name);
-    match frame::write(Kind::Define, values, &mut out, START) {
+    match frame::write(Kind::Define, &values.place, &mut out, START) {
         Written::Bits(n) => {
             io::print_decimal(1, n as u64);
             io::write_all(1, b" bits in ");
