@@ -3,7 +3,6 @@ use crate::parts::Parts;
 use frame::Judged;
 use frame::Kind;
 use frame::PLACES;
-use frame::Record;
 use order::GroupKey;
 use order::Groups;
 use order::Itsi;
@@ -110,7 +109,7 @@ fn define_form_fault(asker: Itsi, place: [u32; PLACES], untaken: bool) -> Reply
     requires { ⌜ untaken ≡ partsOf asker place .untaken ⌝ }
     ensures { λ r. ⌜ r ≡ replyOf (first (defineForm (defineOf (asker .0) place))) ⌝ }
 {
-    let bad = wide(asker.0) | refuses(frame::fault(Kind::Define, Record { place }));
+    let bad = wide(asker.0) | refuses(frame::fault(Kind::Define, &place));
     if bad {
         return Reply::Refused(Refusal::BadOrder);
     }
