@@ -1,7 +1,7 @@
--- On a chain a test of the record as it is handed over and a test of the cleaned record agree: whoever tests chains needs no cleaned copy.
+-- On a chain a test of the record as it is handed over and a test of the cleaned places so far agree: whoever tests chains needs no cleaned copy.
 -- Assumes nothing.
-use Prim.Native.Nat.{ℕ, zero, suc, _<_}
-use mathlib.Core.Path.{_≡_, refl, _∙_}
+use Prim.Native.Nat.{ℕ, zero, suc, _+_, _<_}
+use mathlib.Core.Path.{_≡_, refl, ap, sym, subst, _∙_}
 use mathlib.Core.Bool.{Bool, true, false, not, _&&_}
 use mathlib.Core.List.{List, [], _∷_, _++_, append-assoc, append-nil}
 use native.Mathlib.Omega.{arith}
@@ -12,21 +12,40 @@ use lib.Seq.{getD-take}
 use Rattle.layout.specs.declared.Kind.{Kind}
 use Rattle.layout.specs.declared.Kind.the-variants.{Define, DefineAck, Cancel, CancelAck}
 use Rattle.layout.specs.declared.Element.{Element}
+use Rattle.layout.specs.declared.Shape.the-variants.{Missing}
 use Rattle.layout.specs.Row.{Condition, is, atLeast, nothingSince, Row, holds, all, present, nothing, there}
-use Rattle.layout.specs.Shape.{rowsOf, repeated, span, spans, conditionsOf, unrolled}
+use Rattle.layout.specs.Shape.{No, rowsOf, repeated, span, spans, conditionsOf, unrolled}
 use Rattle.layout.specs.Table.{define, defineAck, cancel, cancelAck, tableOf}
 use Rattle.layout.specs.Write.{idle, held, lay, vals}
 use Rattle.layout.specs.Frame.{rows, clean}
-use Rattle.layout.specs.Chain.{same, among, earlier, under, chained}
-use Rattle.layout.proofs.Tests.{left, right, told, either, all-append}
+use Rattle.layout.specs.Chain.{same, among, earlier, under, chained, own, looks, chainedFrom, begins, bounded}
+use Rattle.layout.proofs.Tests.{left, right, both, and-true, told, either, all-append, both-true}
 
--- ---- every element of every table hangs on a chain
-pub tables-chained : (kind : Kind) → T (all (λ (e : Element). chained (rows kind) [] (conditionsOf (e .0))) (tableOf kind))
-unfolding rows unrolled rowsOf repeated span spans define defineAck cancel cancelAck
+-- ---- every element of every table looks along a chain, and what comes since an O-bit begins with an element
+pub tables-chained : (kind : Kind) → T (chainedFrom (rows kind) (tableOf kind) 0)
+unfolding chainedFrom rows unrolled rowsOf repeated span spans define defineAck cancel cancelAck
 tables-chained Define = tt
 tables-chained DefineAck = tt
 tables-chained Cancel = tt
 tables-chained CancelAck = tt
+
+pub tables-bounded : (kind : Kind) → T (bounded (tableOf kind) (tableOf kind))
+unfolding bounded begins span spans define defineAck cancel cancelAck
+tables-bounded Define = tt
+tables-bounded DefineAck = tt
+tables-bounded Cancel = tt
+tables-bounded CancelAck = tt
+
+-- of the first element, and of those behind it
+pub chain-first : (rows : List Row) (e : Element) (es : List Element) (p : ℕ) → T (chainedFrom rows (e ∷ es) p)
+    → T (chained rows [] (looks e)) × T (all (earlier p) (looks e)) × T (chainedFrom rows es (p + span (e .1)))
+unfolding chainedFrom
+chain-first rows e es p t =
+    let chain = chained rows [] (looks e) in
+    let early = all (earlier p) (looks e) in
+    let more = chainedFrom rows es (p + span (e .1)) in
+    let here = left (chain && early) more t in
+    (left chain early here, right chain early here, right (chain && early) more t)
 
 -- ---- what a place of the cleaned record holds
 clean-at : (left : List Row) (done s : List ℕ) (i : ℕ) → i < length left
@@ -51,10 +70,6 @@ same-holds vs (is p v) (atLeast q w) t h = absurd t
 same-holds vs (is p v) (nothingSince q) t h = absurd t
 same-holds vs (atLeast p v) d t h = absurd t
 same-holds vs (nothingSince p) d t h = absurd t
-
-both-true : (a b : Bool) → a && b ≡ true → (a ≡ true) × (b ≡ true)
-both-true true b e = (refl, e)
-both-true false b e = let z : _≡_ {A = ℕ} 0 1 = cc in absurd (omega arith)
 
 among-holds : (vs : List ℕ) (before : List Condition) (c : Condition) → T (among before c) → all (holds vs) before ≡ true → holds vs c ≡ true
 among-holds vs [] c t e = absurd t
@@ -131,7 +146,43 @@ module _ (left-rows : List Row) (s : List ℕ) where
   agrees before (nothingSince q ∷ more) t e = absurd t
   agrees before (is q v ∷ more) t e = step before more q v t e (agrees (before ++ (is q v ∷ [])) more)
 
--- of any record, at any chain of a table
-pub chain-agrees : (kind : Kind) (s : List ℕ) (hang : List Condition) → T (chained (rows kind) [] hang) → present (clean kind s) hang ≡ present s hang
+-- ---- of any places whose first p are the cleaned record's, at a chain that looks no further
+early-hold : (vs : List ℕ) (p : ℕ) (hang : List Condition) → T (all (earlier p) hang) → all (holds (take p vs)) hang ≡ all (holds vs) hang
+early-hold vs p [] t = refl
+early-hold vs p (c ∷ hang) t =
+    rw (earlier-holds vs p c (left (earlier p c) (all (earlier p) hang) t), early-hold vs p hang (right (earlier p c) (all (earlier p) hang) t))
+
+pub chain-agrees : (kind : Kind) (s vs : List ℕ) (p : ℕ) (hang : List Condition) → T (chained (rows kind) [] hang) → T (all (earlier p) hang)
+    → take p vs ≡ take p (clean kind s) → present vs hang ≡ present s hang
 unfolding present clean cleaned
-chain-agrees kind s hang t = agrees (rows kind) s [] hang t refl
+chain-agrees kind s vs p hang t early done =
+    let front = sym (early-hold vs p hang early) ∙ ap (λ (l : List ℕ). all (holds l) hang) done ∙ early-hold (clean kind s) p hang early in
+    front ∙ agrees (rows kind) s [] hang t refl
+
+-- the front of a chain is a chain
+chain-front : (rows : List Row) (before a b : List Condition) → T (chained rows before (a ++ b)) → T (chained rows before a)
+chain-front rows before [] b t = tt
+chain-front rows before (atLeast q v ∷ a) b t = absurd t
+chain-front rows before (nothingSince q ∷ a) b t = absurd t
+chain-front rows before (is q v ∷ a) b t =
+    let r = getD rows q nothing in
+    let here = ltb q (length rows) && not (idle r) && under before q r in
+    let later = before ++ (is q v ∷ []) in
+    both here (chained rows later a) (left here (chained rows later (a ++ b)) t) (chain-front rows later a b (right here (chained rows later (a ++ b)) t))
+
+-- ---- of an element at its place
+module _
+    (kind : Kind) (s vs : List ℕ) (p : ℕ) (e : Element) (t : T (chained (rows kind) [] (looks e))) (early : T (all (earlier p) (looks e)))
+    (done : take p vs ≡ take p (clean kind s)) where
+  pub looks-agree : (present vs (conditionsOf (e .0)) ≡ present s (conditionsOf (e .0))) × (present vs (looks e) ≡ present s (looks e))
+  looks-agree =
+      let hang = conditionsOf (e .0) in
+      let front = left (all (earlier p) hang) (all (earlier p) (own (e .1))) (subst T (all-append (earlier p) hang (own (e .1))) early) in
+      (chain-agrees kind s vs p hang (chain-front (rows kind) [] hang (own (e .1)) t) front done, chain-agrees kind s vs p (looks e) t early done)
+
+  pub missing-agrees : (q : ℕ) → e .1 ≡ Missing q → present s (conditionsOf (e .0)) ≡ true → eqb (getD vs q 0) No ≡ eqb (getD s q 0) No
+  unfolding present
+  missing-agrees q missing on = sym (last vs (looks-agree .0 ∙ on)) ∙ looks-agree .1 ∙ last s on
+    where
+      last : (l : List ℕ) → all (holds l) (conditionsOf (e .0)) ≡ true → all (holds l) (looks e) ≡ eqb (getD l q 0) No
+      last l h = all-append (holds l) (conditionsOf (e .0)) (own (e .1)) ∙ rw (h, missing, and-true (eqb (getD l q 0) No))

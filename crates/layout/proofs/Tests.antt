@@ -28,6 +28,10 @@ pub and-true : (t : Bool) → t && true ≡ t
 and-true true = refl
 and-true false = refl
 
+pub both-true : (a b : Bool) → a && b ≡ true → (a ≡ true) × (b ≡ true)
+both-true true b e = (refl, e)
+both-true false b e = let z : _≡_ {A = ℕ} 0 1 = cc in absurd (omega arith)
+
 -- a test over a list in two parts
 pub all-append : {A : Type 0} (p : A → Bool) (a b : List A) → all p (a ++ b) ≡ all p a && all p b
 all-append p [] b = refl
