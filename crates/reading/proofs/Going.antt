@@ -14,111 +14,103 @@ use Rattle.refusal.specs.declared.Refusal.the-variants.{EndsInside, BitsRemain,
 use Rattle.bits.specs.Bits.{value}
 use Rattle.layout.specs.declared.Element.{Element}
 use Rattle.layout.specs.declared.Kind.{Kind}
-use Rattle.layout.specs.declared.Shape.{Shape}
 use Rattle.layout.specs.declared.Verdict.the-variants as verdict
 use Rattle.reading.specs.declared.Step.{Step}
 use Rattle.reading.specs.declared.Step.the-variants.{Next, Refused}
 use Rattle.layout.specs.Row.{Row}
 use Rattle.layout.specs.Read.{frame, refused, readRows}
-use Rattle.layout.specs.Shape.{rowsOf, span, conditionsOf, unrolled}
+use Rattle.layout.specs.Shape.{rowsOf, span, unrolled}
 use Rattle.layout.specs.Table.{tableOf, ssType, actionType}
 use Rattle.layout.specs.Frame.{places, rows, read, readBytes, asReading, readingOf}
-use Rattle.table.specs.Lines.{past}
+use Rattle.table.specs.Lines.{firstLine, past, lineNumbers, hangOf, shapeOf, placesOf}
 use Rattle.table.specs.Sound.{Clear, sound}
 use Rattle.reading.specs.Reads.{whole, onward, Reads}
 use Rattle.reading.proofs.ReadLaws.{reading, whole-length}
 use Rattle.table.proofs.Absent.{length-shape}
 use Rattle.table.proofs.Walks.{clear-after}
-use Rattle.table.proofs.TableLaws.{Held, Placed, placed-none, placed-span, placed-sound, placed-room, placed-more, first}
+use Rattle.table.proofs.TableLaws.{Said, said, Own, Placed, placed-none, line-room, line-sound, line-span, line-rows, line-more}
 
-pub record Going (es : List Element) (bits : List Bool) (from : ℕ) (vs : List ℕ) (at p k : ℕ) : Type 0 where
-  pub same : readRows (unrolled es 0) [] from (drop from bits) ≡ readRows (unrolled (drop k es) p) (take p vs) at (drop at bits)
-  pub placed : Placed es p k
+-- the line k of the kind is the next: so many elements are passed
+pub record Going (kind : Kind) (bits : List Bool) (from : ℕ) (vs : List ℕ) (at p k : ℕ) : Type 0 where
+  pub passed : ℕ
+  pub here : k ≡ firstLine kind + passed
+  pub same : readRows (rows kind) [] from (drop from bits) ≡ readRows (unrolled (drop passed (tableOf kind)) p) (take p vs) at (drop at bits)
+  pub placed : Placed (tableOf kind) p passed
   pub clear : Clear vs p
   pub size : length vs ≡ places
-  pub passed : k ≤ length es
 
 all-zero : (l : List ℕ) → ((q : ℕ) → getD l q 0 ≡ 0) → l ≡ replicate (length l) 0
 all-zero [] z = refl
 all-zero (x ∷ l) z = ap₂ _∷_ (z 0) (all-zero l (λ q. z (suc q)))
 
-pub going-none : (kind : Kind) (es : List Element) (bits : List Bool) (from : ℕ) → es ≡ tableOf kind → Going es bits from (replicate places 0) from 0 0
-going-none kind es bits from e =
-    record { same = refl; placed = placed-none kind es e; clear = λ q h. zeros places q; size = refl; passed = omega arith }
+pub going-none : (kind : Kind) (begin end : ℕ) (bits : List Bool) (from : ℕ) → Own kind begin end → Going kind bits from (replicate places 0) from 0 begin
+unfolding rows
+going-none kind begin end bits from own =
+    record { passed = 0; here = omega arith; same = refl; placed = placed-none kind; clear = λ q h. zeros places q; size = refl }
   where
     zeros : (n q : ℕ) → getD {A = ℕ} (replicate n 0) q 0 ≡ 0
     zeros zero q = refl
     zeros (suc n) zero = refl
     zeros (suc n) (suc q) = zeros n q
 
--- ---- a turn: the element k of the code's table, of which `count` are the kind's
-abbrev shapeAt : List Element → ℕ → Shape
-shapeAt table k = getD table k past .1
+module _ {kind : Kind} {begin end : ℕ} (own : Own kind begin end) {bits : List Bool} {from : ℕ} {vs : List ℕ} {at p k : ℕ}
+    (now : Going kind bits from vs at p k) where
+  -- ---- a turn: the line k, by its number
+  module _ {n : ℕ} (less : k < end) (is : n ≡ getD lineNumbers k 0) where
+    inside : now .passed < length (tableOf kind)
+    inside = omega (arith, now .here, own .ends)
 
--- its rows under its condition
-abbrev rowsAt : List Element → ℕ → ℕ → List Row
-rowsAt table k p = rowsOf (shapeAt table k) (conditionsOf (getD table k past .0)) p
+    says : Said n (getD (tableOf kind) (now .passed) past)
+    says = said kind k (now .passed) n (now .here) inside is
 
-module _ {kind : Kind} {table : List Element} {count : ℕ} (held : Held kind table count) {bits : List Bool} {from : ℕ} {vs : List ℕ} {at p k : ℕ}
-    (now : Going (take count table) bits from vs at p k) where
-  -- the rows of these elements are the kind's
-  kind-rows : readRows (rows kind) [] from (drop from bits) ≡ readRows (unrolled (take count table) 0) [] from (drop from bits)
-  unfolding rows
-  kind-rows = ap (λ (l : List Element). readRows (unrolled l 0) [] from (drop from bits)) (sym (held .same))
+    pub turn-room : p + span (shapeOf n) ≤ places
+    turn-room = line-room (now .placed) inside says
 
-  module _ (less : k < count) where
-    inside : k < length (take count table)
-    inside = omega (arith, held .size)
-
-    pub turn-room : p + span (shapeAt table k) ≤ places
-    turn-room = placed-room (take count table) p k (getD table k past) (now .placed) inside (held .at k less)
-
-    pub turn-sound : T (sound (shapeAt table k) p)
-    turn-sound = placed-sound (take count table) p k (getD table k past) (now .placed) inside (held .at k less)
+    pub turn-sound : T (sound (shapeOf n) p)
+    turn-sound = line-sound (now .placed) inside says
 
     -- the places that it takes
-    pub turn-span : getD table k past .2 ≡ span (shapeAt table k)
-    turn-span = placed-span (take count table) p k (getD table k past) (now .placed) inside (held .at k less)
+    pub turn-span : placesOf n ≡ span (shapeOf n)
+    turn-span = line-span (now .placed) inside says
 
     -- by what its reading finds
-    module _ {vs′ : List ℕ} {s : Step} (f : Reads (rowsAt table k p) bits at p vs vs′ s) where
+    module _ {vs′ : List ℕ} {s : Step} (f : Reads (rowsOf (shapeOf n) (hangOf n) p) bits at p vs vs′ s) where
       rest : List Row
-      rest = unrolled (drop (k + 1) (take count table)) (p + span (shapeAt table k))
+      rest = unrolled (drop (now .passed + 1) (tableOf kind)) (p + placesOf n)
 
-      on : readRows (unrolled (take count table) 0) [] from (drop from bits) ≡ onward rest bits (take (p + length (rowsAt table k p)) vs′) s
-      unfolding unrolled rest
+      on : readRows (rows kind) [] from (drop from bits) ≡ onward rest bits (take (p + length (rowsOf (shapeOf n) (hangOf n) p)) vs′) s
+      unfolding rest
       on =
           now .same
-          ∙ ap (λ (l : List Element). readRows (unrolled l p) (take p vs) at (drop at bits))
-          (first (take count table) p k (getD table k past) (now .placed) inside (held .at k less))
+          ∙ ap (λ (l : List Row). readRows l (take p vs) at (drop at bits)) (line-rows (now .placed) inside says)
           ∙ f .same rest
 
-      pub turn-next : {w at′ : ℕ} → w ≡ span (shapeAt table k) → s ≡ Next at′ → Going (take count table) bits from vs′ at′ (p + w) (k + 1)
+      pub turn-next : {w at′ : ℕ} → w ≡ placesOf n → s ≡ Next at′ → Going kind bits from vs′ at′ (p + w) (k + 1)
       unfolding rest
       turn-next {w} {at′} d t =
-          let n : length (rowsAt table k p) ≡ w = length-shape (shapeAt table k) (conditionsOf (getD table k past .0)) p ∙ sym d in
-          let left : List Element = drop (k + 1) (take count table) in
+          let size : length (rowsOf (shapeOf n) (hangOf n) p) ≡ w = length-shape (shapeOf n) (hangOf n) p ∙ sym turn-span ∙ sym d in
+          let left : List Element = drop (now .passed + 1) (tableOf kind) in
           record {
+            passed = now .passed + 1;
+            here = omega (arith, now .here);
             same = on ∙ ap (onward rest bits _) t
-                ∙ ap₂ (λ (m q : ℕ). readRows (unrolled left (p + m)) (take (p + q) vs′) at′ (drop at′ bits)) (sym d) n;
-            placed = subst (λ (m : ℕ). Placed (take count table) (p + m) (k + 1)) (sym d)
-                (placed-more (take count table) p k (getD table k past) (now .placed) inside (held .at k less));
-            clear = λ q h. clear-after (reading bits) (rowsAt table k p) at at′ p vs vs′ s t f (now .clear) q (omega arith);
+                ∙ ap₂ (λ (m q : ℕ). readRows (unrolled left (p + m)) (take (p + q) vs′) at′ (drop at′ bits)) (sym d) size;
+            placed = subst (λ (m : ℕ). Placed (tableOf kind) (p + m) (now .passed + 1)) (sym d) (line-more (now .placed) inside says);
+            clear = λ q h. clear-after (reading bits) (rowsOf (shapeOf n) (hangOf n) p) at at′ p vs vs′ s t f (now .clear) q (omega arith);
             size = f .size ∙ now .size;
-            passed = omega arith;
           }
 
-      pub turn-stop : {n : Refusal} {x : ℕ} → s ≡ Refused n x → readRows (rows kind) [] from (drop from bits) ≡ refused n x
-      turn-stop t = kind-rows ∙ on ∙ ap (onward rest bits _) t
+      pub turn-stop : {r : Refusal} {x : ℕ} → s ≡ Refused r x → readRows (rows kind) [] from (drop from bits) ≡ refused r x
+      turn-stop t = on ∙ ap (onward rest bits _) t
 
-  -- ---- after the last element
-  module _ (end : count ≤ k) where
+  -- ---- after the last line
+  module _ (over : end ≤ k) where
     last : readRows (rows kind) [] from (drop from bits) ≡ readRows [] (take p vs) at (drop at bits)
     unfolding unrolled
     last =
-        kind-rows ∙ now .same
+        now .same
         ∙ ap (λ (l : List Element). readRows (unrolled l p) (take p vs) at (drop at bits))
-        (drop-of-length-le (take count table) {i = k} (omega (arith, held .size)))
+        (drop-of-length-le (tableOf kind) {i = now .passed} (omega (arith, now .here, own .ends)))
 
     pub going-over : at < length bits → readRows (rows kind) [] from (drop from bits) ≡ refused BitsRemain at
     unfolding readRows

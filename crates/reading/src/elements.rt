@@ -3,7 +3,6 @@ use crate::Step;
 use crate::items::read_field;
 use crate::items::read_identity;
 use crate::items::read_list;
-use layout::Element;
 use layout::Kind;
 use layout::PLACES;
 use layout::Reading;
@@ -15,11 +14,14 @@ use table::fields::M_BIT;
 use table::fields::choice;
 use table::fields::number;
 use table::lines::IF_NO;
-use table::lines::count_of;
-use table::lines::table_of;
+use table::lines::end_line;
+use table::lines::first_line;
+use table::lines::line;
+use table::lines::places_of;
+use table::lines::shape_of;
+use table::lines::there;
 use table::tests::holds;
 use table::tests::nothing_since;
-use table::tests::there;
 ghost use mathlib.Core.Path.{_≡_};
 ghost use mathlib.Core.List.{[]};
 ghost use Prim.Native.Nat.{_+_, _*_, _≤_};
@@ -28,7 +30,8 @@ ghost use lib.ListN.{length, drop};
 ghost use Rattle.layout.specs.Frame.{rows, asReading};
 ghost use Rattle.layout.specs.Read as answer;
 ghost use Rattle.layout.specs.Read.{readRows};
-ghost use Rattle.layout.specs.Shape.{rowsOf, span, conditionsOf};
+ghost use Rattle.layout.specs.Shape.{rowsOf, span};
+ghost use Rattle.table.specs.Lines.{hangOf, shapeOf};
 ghost use Rattle.table.specs.Sound.{Clear, sound};
 ghost use Rattle.reading.specs.Reads.{whole, Reads, barredAt};
 
@@ -71,22 +74,21 @@ fn read_shape(
     }
 }
 
-// An element: its rows if it is there, else nothing.
+// An element by its line: its rows if it is there, else nothing.
 fn read_element(
     frame: &[u8],
     bits: usize,
     at: usize,
     values: &mut [u32],
     place: usize,
-    element: Element,
+    line: u64,
 ) -> Step
-    requires { ⌜ (bits ≤ 8 * length (now frame)) × (place + span (element .1) ≤ length (now values)) × Clear (now values) place × T (sound (element .1) place) ⌝ }
-    ensures { λ r. ⌜ Reads (rowsOf (element .1) (conditionsOf (element .0)) place) (whole (now (frame .entry)) bits) at place
+    requires { ⌜ (bits ≤ 8 * length (now frame)) × (place + span (shapeOf line) ≤ length (now values)) × Clear (now values) place × T (sound (shapeOf line) place) ⌝ }
+    ensures { λ r. ⌜ Reads (rowsOf (shapeOf line) (hangOf line) place) (whole (now (frame .entry)) bits) at place
         (now (values .entry)) (now (values .exit)) r ⌝ }
 {
-    let when = element.0;
-    let shape = element.1;
-    if there(&*values, when) {
+    if there(&*values, line) {
+        let shape = shape_of(line);
         read_shape(frame, bits, at, values, place, shape)
     } else {
         Step::Next(at)
@@ -98,14 +100,13 @@ pub fn read_elements(kind: Kind, frame: &[u8], bits: usize, from: usize) -> Read
     requires { ⌜ bits ≤ 8 * length (now frame) ⌝ }
     ensures { λ r. ⌜ r ≡ asReading (readRows (rows kind) [] from (drop from (whole (now (frame .entry)) bits))) ⌝ }
 {
-    let table = table_of(kind);
-    let count = count_of(kind);
+    let end = end_line(kind);
     let mut values = [0u32; PLACES];
     let mut at = from;
     let mut place = 0;
-    let mut k = 0;
-    while k < count {
-        let element = table[k];
+    let mut k = first_line(kind);
+    while k < end {
+        let element = line(k);
         match read_element(frame, bits, at, &mut values, place, element) {
             Step::Next(next) => {
                 at = next;
@@ -114,7 +115,7 @@ pub fn read_elements(kind: Kind, frame: &[u8], bits: usize, from: usize) -> Read
                 return refused(n);
             }
         }
-        place += element.2 as usize;
+        place += places_of(element);
         k += 1;
     }
     if at < bits {

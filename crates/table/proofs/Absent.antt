@@ -12,15 +12,15 @@ use lib.Dec.{ltb}
 use lib.ListN.{length, take, getD, length-append, length-take, List·getD-eq-default}
 use lib.Seq.{getD-take}
 use Rattle.layout.specs.Row.{Row, Condition, is, atLeast, nothingSince, holds, all, present}
-use Rattle.layout.specs.Shape.{identity, No, least, times, item, stride, repeated, rowsOf, span, conditionsOf}
+use Rattle.layout.specs.Shape.{identity, No, least, times, item, stride, repeated, rowsOf, span}
 use Rattle.layout.specs.declared.Items.{Items}
 use Rattle.layout.specs.declared.Items.the-variants.{Numbers, Letters}
 use Rattle.layout.specs.declared.Shape.{Shape}
 use Rattle.layout.specs.declared.Shape.the-variants.{Number, Choice, Identity, Ending, Missing, Nothing}
 use Rattle.layout.specs.declared.Shape.the-variants as shape
-use Rattle.layout.specs.declared.When.{When}
-use Rattle.layout.specs.declared.When.the-variants.{Always, Is, All}
+use Rattle.table.specs.Lines.{outer, inner, place, byte, hangOf}
 use Rattle.table.specs.Sound.{Clear}
+use Rattle.table.proofs.TestLaws.{hang-tests}
 use Rattle.table.proofs.Walks.{Walk}
 use Rattle.layout.proofs.Tests.{and-false}
 
@@ -144,12 +144,11 @@ length-shape Ending hang p = refl
 length-shape (Missing place) hang p = refl
 length-shape (Nothing o) hang p = refl
 
--- a condition looks at the record so far; what holds of the whole, holds of it
-pub present-when : (w : When) (vs : List ℕ) (n : ℕ) → Clear vs n → present (take n vs) (conditionsOf w) ≡ present vs (conditionsOf w)
-unfolding present
-present-when Always vs n z = refl
-present-when (Is q v) vs n z = rw (getD-clear vs n q z)
-present-when (All a b q v) vs n z = rw (getD-clear vs n a z, getD-clear vs n b z, getD-clear vs n q z)
+-- a line's conditions look at the record so far; what holds of the whole, holds of it
+pub present-hang : (n : ℕ) (vs : List ℕ) (p : ℕ) → Clear vs p → present (take p vs) (hangOf n) ≡ present vs (hangOf n)
+present-hang n vs p z =
+    hang-tests (take p vs) n
+    ∙ rw (getD-clear vs p (byte n inner) z, getD-clear vs p (byte n outer) z, getD-clear vs p (byte n place) z) (sym (hang-tests vs n))
 
-pub shut-element : (w : When) (s : Shape) (p : ℕ) (vs : List ℕ) → present vs (conditionsOf w) ≡ false → Clear vs p → Shut vs p (rowsOf s (conditionsOf w) p)
-shut-element w s p vs e z = shut-shape vs p z s (conditionsOf w) (λ n l. present-when w vs n (λ q m. z q (omega arith)) ∙ e)
+pub shut-element : (n : ℕ) (s : Shape) (p : ℕ) (vs : List ℕ) → present vs (hangOf n) ≡ false → Clear vs p → Shut vs p (rowsOf s (hangOf n) p)
+shut-element n s p vs e z = shut-shape vs p z s (hangOf n) (λ m l. present-hang n vs m (λ q h. z q (omega arith)) ∙ e)

@@ -34,6 +34,10 @@ pub sound-missing : (s : Shape) (p q : ℕ) → s ≡ Missing q → T (sound s p
 unfolding sound
 sound-missing s p q e t = ltb→lt q p (subst (λ (x : Shape). T (sound x p)) e t)
 
+pub sound-nothing : (s : Shape) (p o : ℕ) → s ≡ Nothing o → T (sound s p) → o < p
+unfolding sound
+sound-nothing s p o e t = ltb→lt o p (subst (λ (x : Shape). T (sound x p)) e t)
+
 -- every shape has a row
 pub span-some : (s : Shape) → 0 < span s
 unfolding span

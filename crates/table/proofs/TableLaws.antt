@@ -1,45 +1,26 @@
--- The code's tables: what of them is a kind's own, and the tests that each element of each table passes.
+-- The tables: the tests that each element of each table passes, and what the number of its line says.
 -- Assumes nothing.
 use Prim.Native.Nat.{ℕ, zero, suc, _+_, _≤_, _<_}
 use mathlib.Core.Path.{_≡_, refl, ap, ap₂, sym, _∙_, subst}
 use mathlib.Core.Bool.{Bool, _&&_}
-use mathlib.Core.List.{List, [], _∷_, _++_}
+use mathlib.Core.List.{List, _∷_, _++_, map}
 use native.Mathlib.Numerals.{add-one}
 use native.Mathlib.Omega.{arith}
 use borrow.Author.Tests.{eqb-true}
 use lib.Dec.{T, eqb, leb, leb→le}
-use lib.ListN.{length, take, drop, getD}
-use lib.Seq.{drop-cons, getD-take}
+use lib.ListN.{length, take, drop, getD, List·getD-map}
+use lib.Seq.{drop-cons, getD-take, getD-drop}
 use Rattle.layout.specs.declared.Element.{Element}
 use Rattle.layout.specs.declared.Kind.{Kind}
 use Rattle.layout.specs.declared.Kind.the-variants.{Define, DefineAck, Cancel, CancelAck}
-use Rattle.layout.specs.Shape.{span, spans}
+use Rattle.layout.specs.declared.Shape.{Shape}
+use Rattle.layout.specs.Row.{Condition}
+use Rattle.layout.specs.Shape.{rowsOf, span, spans, conditionsOf, unrolled}
 use Rattle.layout.specs.Table.{define, defineAck, cancel, cancelAck, tableOf}
 use Rattle.layout.specs.Frame.{places}
-use Rattle.table.specs.Lines.{lines, shortLines, past, linesOf}
+use Rattle.table.specs.Lines.{lines, firstLine, past, whenNumber, shapeNumber, numberOf, lineNumbers, hangOf, shapeOf, placesOf}
 use Rattle.table.specs.Sound.{sound, able}
 use Rattle.layout.proofs.Tests.{left, right, told}
-
--- n elements of a list from the k-th on
-entries : List Element → ℕ → ℕ → List Element
-entries l k zero = []
-entries l k (suc n) = getD l k past ∷ entries l (suc k) n
-
-entries-tail : (x : Element) (l : List Element) (k n : ℕ) → entries (x ∷ l) (suc k) n ≡ entries l k n
-unfolding entries
-entries-tail x l k zero = refl
-entries-tail x l k (suc n) = ap (λ (m : List Element). getD l k past ∷ m) (entries-tail x l (suc k) n)
-
-entries-all : (l : List Element) → entries l 0 (length l) ≡ l
-unfolding entries
-entries-all [] = refl
-entries-all (x ∷ l) = ap (λ (m : List Element). x ∷ m) (entries-tail x l 0 (length l) ∙ entries-all l)
-
--- the eight lines of a short table, and more behind it
-pub short-lines : (l more : List Element) → length l ≡ shortLines
-    → getD l 0 past ∷ getD l 1 past ∷ getD l 2 past ∷ getD l 3 past ∷ getD l 4 past ∷ getD l 5 past ∷ getD l 6 past ∷ getD l 7 past ∷ more ≡ l ++ more
-unfolding entries
-short-lines l more h = ap (λ (m : List Element). m ++ more) (ap (entries l 0) (sym h) ∙ entries-all l)
 
 -- ---- the tests, computed once for each table
 tables-able : (kind : Kind) → T (able (tableOf kind) 0)
@@ -56,44 +37,79 @@ tables-room DefineAck = tt
 tables-room Cancel = tt
 tables-room CancelAck = tt
 
-tables-size : (kind : Kind) → T (leb (length (tableOf kind)) lines)
-unfolding define defineAck cancel cancelAck span spans
-tables-size Define = tt
-tables-size DefineAck = tt
-tables-size Cancel = tt
-tables-size CancelAck = tt
+-- ---- a match over the numbers from 0 on: what no arm takes is behind them
+abbrev NoneOf : ℕ → ℕ → Type 0
+NoneOf zero k = Unit
+NoneOf (suc n) k = NoneOf n k × (k ≡ n → ⊥)
 
--- what the code holds of a kind's table, and how many of it: that table
-pub record Held (kind : Kind) (table : List Element) (count : ℕ) : Type 0 where
-  pub same : take count table ≡ tableOf kind
-  pub size : length (take count table) ≡ count
-  pub few : count ≤ lines
-  pub at : (k : ℕ) → k < count → getD (take count table) k past ≡ getD table k past
+pub none-of : (n k : ℕ) → NoneOf n k → n ≤ k
+none-of zero k h = omega arith
+none-of (suc n) k h = omega (arith, none-of n k (h .0), h .1)
 
--- a kind's own lines stand first
-own-lines : (kind : Kind) → take (length (tableOf kind)) (linesOf kind) ≡ tableOf kind
-unfolding define defineAck cancel cancelAck span spans
+-- ---- a line's number says what its element is
+pub record Said (n : ℕ) (e : Element) : Type 0 where
+  pub hang : hangOf n ≡ conditionsOf (e .0)
+  pub shape : shapeOf n ≡ e .1
+  pub takes : placesOf n ≡ e .2
+
+-- of a number, and of an element: the conditions, the shape, the places
+abbrev Parts : Type 0
+Parts = List Condition × Shape × ℕ
+
+abbrev ofNumber : ℕ → Parts
+ofNumber n = (hangOf n, shapeOf n, placesOf n)
+
+abbrev ofElement : Element → Parts
+ofElement e = (conditionsOf (e .0), e .1, e .2)
+
+-- computed once for all lines
+all-said : map ofNumber lineNumbers ≡ map ofElement lines
+unfolding hangOf shapeOf placesOf lineNumbers lines numberOf whenNumber shapeNumber define defineAck cancel cancelAck span spans
+all-said = refl
+
+past-said : ofNumber 0 ≡ ofElement past
+unfolding hangOf shapeOf placesOf
+past-said = refl
+
+line-said : (k : ℕ) → ofNumber (getD lineNumbers k 0) ≡ ofElement (getD lines k past)
+line-said k =
+    sym (List·getD-map ofNumber lineNumbers k 0)
+    ∙ ap₂ (λ (l : List Parts) (d : Parts). getD l k d) all-said past-said
+    ∙ List·getD-map ofElement lines k past
+
+-- a kind's own lines stand from its first on
+own-lines : (kind : Kind) → take (length (tableOf kind)) (drop (firstLine kind) lines) ≡ tableOf kind
+unfolding firstLine lines define defineAck cancel cancelAck span spans
 own-lines Define = refl
 own-lines DefineAck = refl
 own-lines Cancel = refl
 own-lines CancelAck = refl
 
-pub table-held : (kind : Kind) (table : List Element) (count : ℕ) → table ≡ linesOf kind → count ≡ length (tableOf kind) → Held kind table count
-table-held kind table count e d =
-    let same : take count table ≡ tableOf kind = ap₂ take d e ∙ own-lines kind in
-    let few : length (tableOf kind) ≤ lines = leb→le _ _ (tables-size kind) in
-    record { same = same; size = ap length same ∙ sym d; few = omega arith; at = λ k h. getD-take count table k past h }
+own-line : (kind : Kind) (j : ℕ) → j < length (tableOf kind) → getD lines (firstLine kind + j) past ≡ getD (tableOf kind) j past
+own-line kind j h =
+    sym (getD-drop (firstLine kind) lines j past)
+    ∙ sym (getD-take (length (tableOf kind)) (drop (firstLine kind) lines) j past h)
+    ∙ ap (λ (l : List Element). getD l j past) (own-lines kind)
+
+-- the line k is the element j of its kind
+pub said : (kind : Kind) (k j n : ℕ) → k ≡ firstLine kind + j → j < length (tableOf kind) → n ≡ getD lineNumbers k 0 → Said n (getD (tableOf kind) j past)
+said kind k j n e h d =
+    let says : ofNumber n ≡ ofElement (getD (tableOf kind) j past) =
+    ap ofNumber (d ∙ ap (λ (i : ℕ). getD lineNumbers i 0) e) ∙ line-said (firstLine kind + j) ∙ ap ofElement (own-line kind j h) in
+    record { hang = ap (λ (t : Parts). t .0) says; shape = ap (λ (t : Parts). t .1) says; takes = ap (λ (t : Parts). t .2) says }
+
+-- a kind's lines are those from its first to its end: what a loop over them goes by, which cannot name the kind
+pub record Own (kind : Kind) (begin end : ℕ) : Type 0 where
+  pub begins : begin ≡ firstLine kind
+  pub ends : end ≡ firstLine kind + length (tableOf kind)
 
 -- ---- a walk over elements: k are passed, and the next begins at the place p
 pub record Placed (es : List Element) (p k : ℕ) : Type 0 where
   pub able : T (able (drop k es) p)
   pub room : p + spans (drop k es) ≤ places
 
-pub placed-none : (kind : Kind) (es : List Element) → es ≡ tableOf kind → Placed es 0 0
-placed-none kind es e =
-    let small : spans (tableOf kind) ≤ places = leb→le _ _ (tables-room kind) in
-    let size : 0 + spans es ≤ places = omega (arith, ap spans e) in
-    record { able = subst (λ (l : List Element). T (able l 0)) (sym e) (tables-able kind); room = size }
+pub placed-none : (kind : Kind) → Placed (tableOf kind) 0 0
+placed-none kind = let small : spans (tableOf kind) ≤ places = leb→le _ _ (tables-room kind) in record { able = tables-able kind; room = omega arith }
 
 module _ (es : List Element) (p k : ℕ) (e : Element) (now : Placed es p k) (inside : k < length es) (is : getD es k past ≡ e) where
   pub first : drop k es ≡ e ∷ drop (k + 1) es
@@ -126,3 +142,26 @@ module _ (es : List Element) (p k : ℕ) (e : Element) (now : Placed es p k) (in
   pub placed-more : Placed es (p + span (e .1)) (k + 1)
   unfolding later
   placed-more = record { able = right (sized && sound (e .1) p) later here; room = omega (arith, sizes, now .room) }
+
+-- the same of the number of its line: what both walks go by
+module _ {es : List Element} {p k n : ℕ} (now : Placed es p k) (inside : k < length es) (says : Said n (getD es k past)) where
+  abbrev e : Element
+  e = getD es k past
+
+  pub line-room : p + span (shapeOf n) ≤ places
+  line-room = rw (says .shape) (placed-room es p k e now inside refl)
+
+  pub line-sound : T (sound (shapeOf n) p)
+  line-sound = rw (says .shape) (placed-sound es p k e now inside refl)
+
+  -- the places that it takes
+  pub line-span : placesOf n ≡ span (shapeOf n)
+  line-span = rw (says .takes, says .shape) (placed-span es p k e now inside refl)
+
+  -- its rows, and those of the lines behind it
+  pub line-rows : unrolled (drop k es) p ≡ rowsOf (shapeOf n) (hangOf n) p ++ unrolled (drop (k + 1) es) (p + placesOf n)
+  unfolding unrolled
+  line-rows = rw (line-span, says .shape, says .hang) (ap (λ (l : List Element). unrolled l p) (first es p k e now inside refl))
+
+  pub line-more : Placed es (p + placesOf n) (k + 1)
+  line-more = rw (line-span, says .shape) (placed-more es p k e now inside refl)

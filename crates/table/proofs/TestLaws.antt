@@ -1,38 +1,38 @@
--- What is asked of a record on the way: a chain's conditions, in any sequence; places that hold 0, one after the other.
+-- What is asked of a record on the way: a line's conditions, as they are tested; places that hold 0, one after the other.
 -- Assumes nothing.
 use Prim.Native.Nat.{ℕ, _+_, _≤_, _<_, min}
-use mathlib.Core.Path.{_≡_, sym, _∙_}
-use mathlib.Core.Bool.{Bool, true, false, _&&_}
-use mathlib.Core.List.{List}
+use mathlib.Core.Path.{_≡_, refl, sym}
+use mathlib.Core.Bool.{Bool, true, false, cond, _&&_, _||_}
+use mathlib.Core.List.{List, []}
 use native.Mathlib.Numerals.{add-one}
 use native.Mathlib.Omega.{arith}
 use lib.Dec.{eqb}
 use lib.ListN.{length, take, drop, getD, length-take, drop-of-length-le}
 use lib.Seq.{drop-cons, getD-take}
-use Rattle.layout.specs.declared.When.{When}
-use Rattle.layout.specs.declared.When.the-variants.{Is, All}
-use Rattle.layout.specs.Row.{all, present}
-use Rattle.layout.specs.Shape.{conditionsOf}
-use Rattle.layout.proofs.Tests.{and-true, and-false}
+use Rattle.layout.specs.Row.{Condition, holds, all, present}
+use Rattle.table.specs.Lines.{outer, inner, place, value, byte, hangOf}
+use Rattle.layout.proofs.Tests.{and-true, and-false, all-append}
 
--- ---- a chain
-module _ (w : When) (vs : List ℕ) (q v : ℕ) where
-  pub there-is : (t : Bool) → w ≡ Is q v → t ≡ eqb (getD vs q 0) v → t ≡ present vs (conditionsOf w)
-  unfolding present
-  there-is t e d = d ∙ rw (e, and-true (eqb (getD vs q 0) v))
+flip : (s t : Bool) → s && t ≡ t && s
+flip true t = sym (and-true t)
+flip false t = sym (and-false t)
 
-  pub there-all : (a b : ℕ) (s t : Bool) → w ≡ All a b q v → eqb (getD vs q 0) v ≡ true → s ≡ eqb (getD vs b 0) 1 → t ≡ eqb (getD vs a 0) 1
-      → s && t ≡ present vs (conditionsOf w)
-  unfolding present
-  there-all a b s t e on d c = rw (e, on, d, c, and-true (eqb (getD vs b 0) 1)) (flip (eqb (getD vs b 0) 1) (eqb (getD vs a 0) 1))
-    where
-      flip : (s t : Bool) → s && t ≡ t && s
-      flip true t = sym (and-true t)
-      flip false t = sym (and-false t)
+-- ---- the conditions of a line: its own, and its chain from the inside
+module _ (vs : List ℕ) (n : ℕ) where
+  abbrev pub own : Bool
+  own = eqb (byte n value) 0 || eqb (getD vs (byte n place) 0) (byte n value)
 
-  pub all-off : (a b : ℕ) → w ≡ All a b q v → eqb (getD vs q 0) v ≡ false → false ≡ present vs (conditionsOf w)
-  unfolding present
-  all-off a b e off = rw (e, off, and-false (eqb (getD vs b 0) 1), and-false (eqb (getD vs a 0) 1))
+  abbrev pub chain : Bool
+  chain = eqb (byte n outer) 0 || (eqb (getD vs (byte n inner) 0) 1 && eqb (getD vs (byte n outer) 0) 1)
+
+  -- conditions that may be none
+  unless : (none : Bool) (hang : List Condition) → all (holds vs) (cond none [] hang) ≡ none || all (holds vs) hang
+  unless true hang = refl
+  unless false hang = refl
+
+  pub hang-tests : present vs (hangOf n) ≡ chain && own
+  unfolding hangOf present
+  hang-tests = simp (all-append (holds vs), unless, and-true) (rw (flip (eqb (getD vs (byte n outer) 0) 1)))
 
 -- ---- places that hold 0
 module _ (vs : List ℕ) (to i : ℕ) where

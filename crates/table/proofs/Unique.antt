@@ -18,10 +18,16 @@ use Rattle.table.proofs.items.stride_of.Kinds as stride-of-kinds
 use Rattle.table.proofs.items.stride_of.Reads as stride-of
 use Rattle.table.proofs.items.times_of.Kinds as times-of-kinds
 use Rattle.table.proofs.items.times_of.Reads as times-of
-use Rattle.table.proofs.lines.table_of.Kinds as table-of-kinds
-use Rattle.table.proofs.lines.table_of.Reads as table-of
-use Rattle.table.proofs.lines.count_of.Kinds as count-of-kinds
-use Rattle.table.proofs.lines.count_of.Reads as count-of
+use Rattle.table.proofs.lines.line.Kinds as line-kinds
+use Rattle.table.proofs.lines.line.Reads as line
+use Rattle.table.proofs.lines.first_line.Kinds as first-line-kinds
+use Rattle.table.proofs.lines.first_line.Reads as first-line
+use Rattle.table.proofs.lines.end_line.Kinds as end-line-kinds
+use Rattle.table.proofs.lines.end_line.Reads as end-line
+use Rattle.table.proofs.lines.shape_of.Kinds as shape-of-kinds
+use Rattle.table.proofs.lines.shape_of.Reads as shape-of
+use Rattle.table.proofs.lines.places_of.Kinds as places-of-kinds
+use Rattle.table.proofs.lines.places_of.Reads as places-of
 use Rattle.table.proofs.lines.action_type.Kinds as action-type-kinds
 use Rattle.table.proofs.lines.action_type.Reads as action-type
 use Rattle.table.proofs.place.define_places.Kinds as define-places-kinds
@@ -34,8 +40,8 @@ use Rattle.table.proofs.place.cancel_ack_places.Kinds as cancel-ack-pla
 use Rattle.table.proofs.place.cancel_ack_places.Reads as cancel-ack-places
 use Rattle.table.proofs.tests.holds.Kinds as holds-kinds
 use Rattle.table.proofs.tests.holds.Reads as holds
-use Rattle.table.proofs.tests.there.Kinds as there-kinds
-use Rattle.table.proofs.tests.there.Reads as there
+use Rattle.table.proofs.lines.there.Kinds as there-kinds
+use Rattle.table.proofs.lines.there.Reads as there
 use Rattle.table.proofs.tests.nothing_since.Kinds as nothing-since-kinds
 use Rattle.table.proofs.tests.nothing_since.Reads as nothing-since
 
@@ -63,11 +69,20 @@ stride-of-unique κs a r r′ s s′ p q = p ∙ sym q
 pub times-of-unique : Unique times-of-kinds.ps times-of-kinds.r times-of.Post
 times-of-unique κs a r r′ s s′ p q = p ∙ sym q
 
-pub table-of-unique : Unique table-of-kinds.ps table-of-kinds.r table-of.Post
-table-of-unique κs a r r′ s s′ p q = p ∙ sym q
+pub line-unique : Unique line-kinds.ps line-kinds.r line.Post
+line-unique κs a r r′ s s′ p q = p ∙ sym q
 
-pub count-of-unique : Unique count-of-kinds.ps count-of-kinds.r count-of.Post
-count-of-unique κs a r r′ s s′ p q = p ∙ sym q
+pub first-line-unique : Unique first-line-kinds.ps first-line-kinds.r first-line.Post
+first-line-unique κs a r r′ s s′ p q = p ∙ sym q
+
+pub end-line-unique : Unique end-line-kinds.ps end-line-kinds.r end-line.Post
+end-line-unique κs a r r′ s s′ p q = p ∙ sym q
+
+pub shape-of-unique : Unique shape-of-kinds.ps shape-of-kinds.r shape-of.Post
+shape-of-unique κs a r r′ s s′ p q = p ∙ sym q
+
+pub places-of-unique : Unique places-of-kinds.ps places-of-kinds.r places-of.Post
+places-of-unique κs a r r′ s s′ p q = p ∙ sym q
 
 pub action-type-unique : Unique action-type-kinds.ps action-type-kinds.r action-type.Post
 action-type-unique κs a r r′ s s′ p q = p ∙ sym q

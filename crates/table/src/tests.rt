@@ -1,11 +1,9 @@
 // What is asked of a record on the way over a table.
-use layout::When;
 ghost use mathlib.Core.Path.{_≡_};
 ghost use Prim.Native.Nat.{suc, min};
 ghost use lib.Dec.{eqb};
 ghost use lib.ListN.{getD, take, drop};
-ghost use Rattle.layout.specs.Row.{all, present};
-ghost use Rattle.layout.specs.Shape.{conditionsOf};
+ghost use Rattle.layout.specs.Row.{all};
 
 // Whether a place holds a value; a place past the end holds 0.
 pub fn holds(values: &[u32], place: u8, value: u8) -> bool
@@ -16,23 +14,6 @@ pub fn holds(values: &[u32], place: u8, value: u8) -> bool
         values[at] == value as u32
     } else {
         0 == value
-    }
-}
-
-// Whether an element is there. The last condition is tested first: where an element is not there, it is mostly that one that fails.
-pub fn there(values: &[u32], when: When) -> bool
-    ensures { λ r. ⌜ r ≡ present (now (values .entry)) (conditionsOf when) ⌝ }
-{
-    match when {
-        When::Always => true,
-        When::Is(place, v) => holds(values, place, v),
-        When::All(a, b, place, v) => {
-            if holds(values, place, v) {
-                holds(values, b, 1) & holds(values, a, 1)
-            } else {
-                false
-            }
-        }
     }
 }
 

@@ -1,6 +1,10 @@
 pub mod LayLaws
+pub mod Parts
+pub mod Identities
 pub mod LayLists
 pub mod LayShapes
+pub mod FoundShapes
+pub mod Since
 pub mod WholeRecord
 pub mod WriteLaws
 pub mod Unique

@@ -8,7 +8,7 @@ use native.Mathlib.Nat.{zero-add, zero-mul}
 use native.Mathlib.Omega.{arith}
 use borrow.Author.Tests.{le-leb, lt-leb}
 use borrow.Rule.Slice.PartMut.{putMid, midOf, postOf}
-use lib.Dec.{leb}
+use lib.Dec.{T, leb}
 use lib.ListN.{length, take, drop, replicate, length-append, length-drop, length-replicate, drop-of-length-le}
 use lib.Seq.{take-at, drop-at, drop-drop, take-all, getD-drop}
 use Rattle.refusal.specs.declared.Refusal.{Refusal}
@@ -19,17 +19,19 @@ use Rattle.bits.proofs.Laws.{length-digits, digits-value, bitsOf-drop, bits-byt
 use Rattle.layout.specs.declared.Kind.{Kind}
 use Rattle.layout.specs.declared.Judged.{Judged}
 use Rattle.layout.specs.declared.Judged.the-variants as judged
+use Rattle.writing.specs.declared.Pass.the-variants.{Judge, Lay}
 use Rattle.writing.specs.declared.Walked.{Walked}
 use Rattle.writing.specs.declared.Walked.the-variants as walked
 use Rattle.layout.specs.declared.Written.the-variants as written
 use Rattle.layout.specs.Row.{all}
 use Rattle.layout.specs.Write.{good, goodButGroup, emit}
 use Rattle.layout.specs.Table.{ssType, actionType}
+use Rattle.layout.proofs.Tests.{told}
 use Rattle.layout.specs.Frame.{head, headBits, laid, valid, write, judgedOf, writtenOf, outputOf}
 use Rattle.writing.specs.Lay.{Over, Walks}
-use Rattle.writing.specs.Whole.{judgedBy, Count, Counts, Bits, Frames}
+use Rattle.writing.specs.Whole.{judgedBy, Count, Counts}
 use Rattle.writing.proofs.LayLaws.{over-put, over-join}
-use Rattle.writing.proofs.WholeRecord.{good-coded}
+use Rattle.writing.proofs.WholeRecord.{good-coded, not-good}
 
 -- ---- the judgement
 judge : (a b : Bool) → Judged
@@ -40,13 +42,23 @@ module _ (kind : Kind) (s : List ℕ) where
   unfolding judgedOf judge
   judged-as a b p q = rw (p, q)
 
-  -- a record with a value that has no code at all is not good
-  not-good : all goodButGroup (laid kind s) ≡ false → all good (laid kind s) ≡ false
-  not-good h = go (all good (laid kind s)) refl
-    where
-      go : (b : Bool) → all good (laid kind s) ≡ b → b ≡ false
-      go false e = refl
-      go true e = sym (good-coded (laid kind s) e) ∙ h
+  head-length : length (head kind) ≡ headBits
+  unfolding head
+  head-length = length-append (digits 6 ssType) (digits 4 (actionType kind)) ∙ ap₂ _+_ (length-digits 6 ssType) (length-digits 4 (actionType kind))
+
+  pub counts : (out out′ : List ℕ) (r : Walked) → Walks Judge (laid kind s) out out′ r → Counts kind s r
+  unfolding judge valid write
+  counts out out′ (walked.Bits n) f =
+      record {
+        judges = judged-as true true (f .outcome .0) (good-coded (laid kind s) (f .outcome .0));
+        count = (
+          f .outcome .0,
+          f .outcome .1 ∙ sym (length-append (head kind) (emit (laid kind s)) ∙ ap (λ (m : ℕ). m + length (emit (laid kind s))) head-length),
+          f .outcome .2,
+        );
+      }
+  counts out out′ walked.Reserved f = record { judges = judged-as false false (not-good (laid kind s) (f .outcome)) (f .outcome); count = tt }
+  counts out out′ walked.NoGroup f = record { judges = judged-as false true (f .outcome .0) (f .outcome .1); count = tt }
 
   -- ---- the head and the elements
   module _ (out out₁ out₂ out₃ : List ℕ) (p : out₁ ≡ putAt out 0 6 ssType) (q : out₂ ≡ putAt out₁ 6 4 (actionType kind)) where
@@ -58,35 +70,12 @@ module _ (kind : Kind) (s : List ℕ) where
         (subst (λ (n : ℕ). Over out₁ out₂ n (digits 4 (actionType kind))) (sym (ap (λ (n : ℕ). 0 + n) (length-digits 6 ssType)))
         (subst (λ (x : List ℕ). Over out₁ x 6 (digits 4 (actionType kind))) (sym q) (over-put out₁ 6 4 (actionType kind) (omega arith))))
 
-    head-length : length (head kind) ≡ headBits
-    unfolding head
-    head-length = length-append (digits 6 ssType) (digits 4 (actionType kind)) ∙ ap₂ _+_ (length-digits 6 ssType) (length-digits 4 (actionType kind))
-
-    pub framed : (r : Walked) → Walks (laid kind s) out₂ out₃ r → Frames kind s out out₃ r
-    unfolding judge valid write
-    framed (walked.Bits n) f =
-        record {
-          counts = record {
-            judges = judged-as true true (f .outcome .0) (good-coded (laid kind s) (f .outcome .0));
-            count = (
-              f .outcome .0,
-              f .outcome .1 ∙ sym (length-append (head kind) (emit (laid kind s)) ∙ ap (λ (m : ℕ). m + length (emit (laid kind s))) head-length),
-              f .outcome .2,
-            );
-          };
-          bits = over-join out out₂ out₃ 0 (head kind) (emit (laid kind s)) headed
-              (subst (λ (m : ℕ). Over out₂ out₃ m (emit (laid kind s))) (sym (ap (λ (m : ℕ). 0 + m) head-length)) (f .outcome .3));
-        }
-    framed walked.Reserved f =
-        record {
-          counts = record { judges = judged-as false false (not-good (f .outcome .0)) (f .outcome .0); count = tt };
-          bits = f .outcome .1 ∙ headed .size;
-        }
-    framed walked.NoGroup f =
-        record {
-          counts = record { judges = judged-as false true (f .outcome .0) (f .outcome .1); count = tt };
-          bits = f .outcome .2 ∙ headed .size;
-        }
+    pub framed : (r : Walked) → T (valid kind s) → Walks Lay (laid kind s) out₂ out₃ r → Over out out₃ 0 (write kind s)
+    unfolding valid write
+    framed r v f =
+        over-join out out₂ out₃ 0 (head kind) (emit (laid kind s)) headed
+        (subst (λ (m : ℕ). Over out₂ out₃ m (emit (laid kind s))) (sym (ap (λ (m : ℕ). 0 + m) head-length))
+        (f .outcome (told (all good (laid kind s)) v)))
 
 -- ---- the spare bits
 pub spare-width : (n : ℕ) → (8 - n % 8) % 8 ≡ 8 * bytesFor n - n
@@ -182,13 +171,6 @@ pub refused-record : (kind : Kind) (s out : List ℕ) (start : ℕ) (n : Refusal
     → (written.Refused n ≡ writtenOf kind s (length out) start) × (out ≡ outputOf kind s out start)
 unfolding writtenOf outputOf
 refused-record kind s out start n e = (rw (← e), rw (← e))
-
--- a writable record's bits are laid
-pub frame-over : (kind : Kind) (s out out′ : List ℕ) (r : Walked) → judgedOf kind s ≡ judged.Writable → Frames kind s out out′ r
-    → Over out out′ 0 (write kind s)
-frame-over kind s out out′ (walked.Bits n) v f = f .bits
-frame-over kind s out out′ walked.Reserved v f = let d = f .counts .judges ∙ v in let z : _≡_ {A = ℕ} 0 1 = cc in absurd (omega arith)
-frame-over kind s out out′ walked.NoGroup v f = let d = f .counts .judges ∙ v in let z : _≡_ {A = ℕ} 0 1 = cc in absurd (omega arith)
 
 pub counted : (kind : Kind) (s : List ℕ) (r : Walked) (n : ℕ) → r ≡ walked.Bits n → Counts kind s r → Count kind s (walked.Bits n)
 counted kind s r n e f = subst (λ (x : Walked). Counts kind s x) e f .count

@@ -1,4 +1,4 @@
--- A whole record, walked over: what the writer's two walks promise.
+-- A whole record, judged: what the walk that judges promises.
 -- Assumes nothing.
 use Prim.Native.Nat.{ℕ, _≤_}
 use mathlib.Core.Path.{_≡_}
@@ -12,7 +12,7 @@ use Rattle.layout.specs.declared.Judged.the-variants as judged
 use Rattle.writing.specs.declared.Walked.{Walked}
 use Rattle.writing.specs.declared.Walked.the-variants as walked
 use Rattle.layout.specs.Frame.{valid, write, judgedOf}
-use Rattle.writing.specs.Lay.{Over, mostBits}
+use Rattle.writing.specs.Lay.{mostBits}
 
 abbrev pub judgedBy : Walked → Judged
 judgedBy (walked.Bits n) = judged.Writable
@@ -28,13 +28,3 @@ Count kind s walked.NoGroup = Unit {0}
 pub record Counts (kind : Kind) (s : List ℕ) (r : Walked) : Type 0 where
   pub judges : judgedBy r ≡ judgedOf kind s
   pub count : Count kind s r
-
--- the same, and the bits of the frame over those of the bytes
-abbrev pub Bits : Kind → List ℕ → List ℕ → List ℕ → Walked → Type 0
-Bits kind s out out′ (walked.Bits n) = Over out out′ 0 (write kind s)
-Bits kind s out out′ walked.Reserved = length out′ ≡ length out
-Bits kind s out out′ walked.NoGroup = length out′ ≡ length out
-
-pub record Frames (kind : Kind) (s out out′ : List ℕ) (r : Walked) : Type 0 where
-  pub counts : Counts kind s r
-  pub bits : Bits kind s out out′ r

@@ -1,11 +1,12 @@
-// Laying a table's elements, one after the other. An element that is not there costs one test.
-use crate::Laying;
+// Passing a table's elements, one after the other. An element that is not there costs one test.
+// Whether one is there is asked of the caller's record itself: no cleaned copy is held.
+use crate::Pass;
+use crate::Passed;
 use crate::Put;
 use crate::Walked;
-use crate::items::lay_field;
-use crate::items::lay_identity;
-use crate::items::lay_list;
-use layout::Element;
+use crate::items::walk_field;
+use crate::items::walk_identity;
+use crate::items::walk_list;
 use layout::Kind;
 use layout::PLACES;
 use layout::Shape;
@@ -14,112 +15,122 @@ use table::fields::choice;
 use table::fields::number;
 use table::lines::HEAD_BITS;
 use table::lines::IF_NO;
-use table::lines::count_of;
-use table::lines::table_of;
+use table::lines::end_line;
+use table::lines::first_line;
+use table::lines::line;
+use table::lines::places_of;
+use table::lines::shape_of;
+use table::lines::there;
 use table::tests::holds;
-use table::tests::nothing_since;
-use table::tests::there;
 ghost use mathlib.Core.Path.{_≡_};
 ghost use mathlib.Core.List.{[]};
 ghost use lib.Dec.{T};
-ghost use lib.ListN.{length};
-ghost use Rattle.layout.specs.Frame.{places, laid};
-ghost use Rattle.layout.specs.Shape.{rowsOf, span, conditionsOf};
+ghost use Rattle.layout.specs.Frame.{laid};
+ghost use Rattle.layout.specs.Shape.{rowsOf, span};
+ghost use Rattle.table.specs.Lines.{hangOf, shapeOf};
 ghost use Rattle.table.specs.Sound.{sound};
-ghost use Rattle.writing.specs.Lay.{Ready, Puts, toldOf, Walks};
+ghost use Rattle.writing.specs.Lay.{Ready, Puts, Looks, LooksAlong, foundOf, barredOf, Walks};
 
-fn told(put: Put) -> Laying
-    ensures { λ r. ⌜ r ≡ toldOf put ⌝ }
+// What was passed, by the value at its first place.
+fn found(put: Put, value: u32) -> Passed
+    ensures { λ r. ⌜ r ≡ foundOf put value ⌝ }
 {
     match put {
-        Put::Next(at) => Laying::Next(at),
-        Put::Bad => Laying::Bad,
+        Put::Next(at) => {
+            if value == 0 {
+                Passed::Empty(at)
+            } else {
+                Passed::Held(at)
+            }
+        }
+        Put::Bad => Passed::Bad,
     }
 }
 
-// The rows of a shape that is there.
-fn lay_shape(
-    values: &[u32],
-    clean: &mut [u32],
+// A refusal, if there is a reason and this is the walk that judges.
+fn barred(pass: Pass, reason: bool, refusal: Passed, at: usize) -> Passed
+    ensures { λ r. ⌜ r ≡ barredOf pass reason refusal at ⌝ }
+{
+    match pass {
+        Pass::Judge => if reason { refusal } else { Passed::Empty(at) },
+        Pass::Lay => Passed::Empty(at),
+    }
+}
+
+// The rows of a shape that is there. `last` is the place behind the first of the last element before it that holds anything.
+fn walk_shape(
+    pass: Pass,
+    values: &[u32; PLACES],
     out: &mut [u8],
     at: usize,
     place: usize,
     shape: Shape,
-) -> Laying
-    requires { ⌜ Ready (now values) (now clean) at place (span shape) × T (sound shape place) ⌝ }
-    ensures { λ r. ⌜ Puts (rowsOf shape [] place) (now (values .entry)) at place
-        (now (clean .entry)) (now (clean .exit)) (now (out .entry)) (now (out .exit)) r ⌝ }
+    last: usize,
+) -> Passed
+    requires { ⌜ Ready at place (span shape) × T (sound shape place) ⌝ }
+    ensures { λ r. ⌜ Puts pass (Looks pass (now (values .entry)) last place shape) (rowsOf shape [] place) (now (values .entry)) at place
+        (now (out .entry)) (now (out .exit)) r ⌝ }
 {
+    let value = values[place];
     match shape {
-        Shape::Number(w) => told(lay_field(values, clean, out, at, place, number(w))),
-        Shape::Choice(w, n) => { told(lay_field(values, clean, out, at, place, choice(w, n))) }
-        Shape::Identity => told(lay_identity(values, clean, out, at, place)),
-        Shape::List(items) => told(lay_list(values, clean, out, at, place, items)),
-        Shape::Ending => told(lay_field(values, clean, out, at, place, M_BIT)),
-        Shape::Missing(q) => {
-            if holds(&*clean, q, IF_NO) {
-                Laying::NoGroup
-            } else {
-                Laying::Next(at)
-            }
-        }
-        Shape::Nothing(o) => {
-            if nothing_since(&*clean, o, place) {
-                Laying::Bad
-            } else {
-                Laying::Next(at)
-            }
-        }
+        Shape::Number(w) => found(walk_field(pass, out, at, value, number(w)), value),
+        Shape::Choice(w, n) => found(walk_field(pass, out, at, value, choice(w, n)), value),
+        Shape::Identity => found(walk_identity(pass, values, out, at, place), value),
+        Shape::List(items) => found(walk_list(pass, values, out, at, place, items), value),
+        Shape::Ending => found(walk_field(pass, out, at, 0, M_BIT), 0),
+        Shape::Missing(q) => barred(pass, holds(values, q, IF_NO), Passed::NoGroup, at),
+        Shape::Nothing(o) => barred(pass, last <= o as usize + 1, Passed::Bad, at),
     }
 }
 
-// An element: its rows if it is there, else nothing.
-fn lay_element(
-    values: &[u32],
-    clean: &mut [u32],
+// A line's element: its rows if it is there, else nothing.
+fn walk_element(
+    pass: Pass,
+    values: &[u32; PLACES],
     out: &mut [u8],
     at: usize,
     place: usize,
-    element: Element,
-) -> Laying
-    requires { ⌜ Ready (now values) (now clean) at place (span (element .1)) × T (sound (element .1) place) ⌝ }
-    ensures { λ r. ⌜ Puts (rowsOf (element .1) (conditionsOf (element .0)) place) (now (values .entry)) at place
-        (now (clean .entry)) (now (clean .exit)) (now (out .entry)) (now (out .exit)) r ⌝ }
+    line: u64,
+    last: usize,
+) -> Passed
+    requires { ⌜ Ready at place (span (shapeOf line)) × T (sound (shapeOf line) place) ⌝ }
+    ensures { λ r. ⌜ Puts pass (LooksAlong pass (now (values .entry)) last place line) (rowsOf (shapeOf line) (hangOf line) place) (now (values .entry)) at place
+        (now (out .entry)) (now (out .exit)) r ⌝ }
 {
-    let when = element.0;
-    let shape = element.1;
-    if there(&*clean, when) {
-        lay_shape(values, clean, out, at, place, shape)
+    if there(values, line) {
+        walk_shape(pass, values, out, at, place, shape_of(line), last)
     } else {
-        Laying::Next(at)
+        Passed::Empty(at)
     }
 }
 
 // The elements of a kind's table, after the head.
-pub fn lay_elements(kind: Kind, values: &[u32], out: &mut [u8]) -> Walked
-    requires { ⌜ length (now values) ≡ places ⌝ }
-    ensures { λ r. ⌜ Walks (laid kind (now (values .entry))) (now (out .entry)) (now (out .exit)) r ⌝ }
+pub fn walk_elements(pass: Pass, kind: Kind, values: &[u32; PLACES], out: &mut [u8]) -> Walked
+    ensures { λ r. ⌜ Walks pass (laid kind (now (values .entry))) (now (out .entry)) (now (out .exit)) r ⌝ }
 {
-    let table = table_of(kind);
-    let count = count_of(kind);
-    let mut clean = [0u32; PLACES];
+    let end = end_line(kind);
     let mut grouped = true;
     let mut at = HEAD_BITS;
     let mut place = 0;
-    let mut k = 0;
-    while k < count {
-        let element = table[k];
+    let mut last = 0;
+    let mut k = first_line(kind);
+    while k < end {
+        let element = line(k);
         let here = place;
-        place += element.2 as usize;
+        place += places_of(element);
         k += 1;
-        match lay_element(values, &mut clean, out, at, here, element) {
-            Laying::Next(next) => {
+        match walk_element(pass, values, out, at, here, element, last) {
+            Passed::Empty(next) => {
                 at = next;
             }
-            Laying::NoGroup => {
+            Passed::Held(next) => {
+                at = next;
+                last = here + 1;
+            }
+            Passed::NoGroup => {
                 grouped = false;
             }
-            Laying::Bad => {
+            Passed::Bad => {
                 return Walked::Reserved;
             }
         }

@@ -1,7 +1,10 @@
-// Laying a field, an identity, a list: the value kept in a cleaned record, and its bits laid.
+// Passing a field, an identity, a list of the caller's record: judged, or laid.
+use crate::Pass;
 use crate::Put;
 use bits::put_field;
 use layout::Items;
+use layout::PLACES;
+use std::num::wrapping_sub_u32;
 use table::Field;
 use table::fields::EXTENSION;
 use table::fields::FORM;
@@ -14,125 +17,112 @@ use table::items::stride_of;
 use table::items::times_of;
 ghost use mathlib.Core.Path.{_≡_};
 ghost use mathlib.Core.List.{[], _∷_};
-ghost use Prim.Native.Nat.{_+_, _*_, _<_};
+ghost use Prim.Native.Nat.{_+_, _*_, _≤_, _<_};
 ghost use lib.ListN.{drop};
 ghost use Rattle.layout.specs.Row.{atLeast};
 ghost use Rattle.layout.specs.Shape.{times, least, stride, identity, item, repeated, rowsOf};
-ghost use Rattle.layout.specs.Write as rules;
 ghost use Rattle.layout.specs.declared.Shape.the-variants as shape;
-ghost use Rattle.table.specs.Fields.{rowFor, Narrow};
-ghost use Rattle.writing.specs.Lay.{Ready, Lays};
+ghost use Rattle.table.specs.Fields.{Narrow};
+ghost use Rattle.writing.specs.Lay.{mostBits, Ready, Passes, Writes, Any, Known};
 
-// What is laid for a value: 0 of a field that can hold nothing else, whatever the place holds.
-fn held(field: Field, v: u32) -> u32
-    ensures { λ r. ⌜ r ≡ rules.held (rowFor field []) v ⌝ }
+// The value of a field that is there: judged by its codes, or laid.
+pub fn walk_field(pass: Pass, out: &mut [u8], at: usize, value: u32, field: Field) -> Put
+    requires { ⌜ Narrow field × (at ≤ mostBits) ⌝ }
+    ensures { λ r. ⌜ Passes pass field value at (now (out .entry)) (now (out .exit)) r ⌝ }
 {
-    if (field.first == 0) & (field.codes <= 1) {
-        0
-    } else {
-        v
-    }
-}
-
-// The field of a row that is there: its value kept, and its bits laid.
-pub fn lay_field(
-    values: &[u32],
-    clean: &mut [u32],
-    out: &mut [u8],
-    at: usize,
-    place: usize,
-    field: Field,
-) -> Put
-    requires { ⌜ Ready (now values) (now clean) at place 1 × Narrow field ⌝ }
-    ensures { λ r. ⌜ Lays (rowFor field [] ∷ []) (now (values .entry)) at place
-        (now (clean .entry)) (now (clean .exit)) (now (out .entry)) (now (out .exit)) r ⌝ }
-{
-    let v = held(field, values[place]);
-    let first = field.first;
-    if v < first {
-        return Put::Bad;
-    }
-    let code = v - first;
-    if field.codes <= code {
-        return Put::Bad;
-    }
     let width = field.width;
-    clean[place] = v;
-    put_field(out, at, width, code);
-    Put::Next(at + width)
+    let code = wrapping_sub_u32(value, field.first);
+    match pass {
+        Pass::Judge => {
+            if field.codes <= code {
+                Put::Bad
+            } else {
+                Put::Next(at + width)
+            }
+        }
+        Pass::Lay => {
+            put_field(out, at, width, code);
+            Put::Next(at + width)
+        }
+    }
 }
 
 // The extension, where the form has one.
-fn lay_extension(values: &[u32], clean: &mut [u32], out: &mut [u8], at: usize, place: usize) -> Put
-    requires { ⌜ Ready (now values) (now clean) at (place + 3) 1 ⌝ }
-    ensures { λ r. ⌜ Lays (drop 3 (identity [] place)) (now (values .entry)) at (place + 3)
-        (now (clean .entry)) (now (clean .exit)) (now (out .entry)) (now (out .exit)) r ⌝ }
+fn walk_extension(
+    pass: Pass,
+    values: &[u32; PLACES],
+    out: &mut [u8],
+    at: usize,
+    place: usize,
+) -> Put
+    requires { ⌜ Ready at (place + 3) 1 ⌝ }
+    ensures { λ r. ⌜ Writes pass (Known (now (values .entry)) place) (drop 3 (identity [] place)) (now (values .entry)) at (place + 3)
+        (now (out .entry)) (now (out .exit)) r ⌝ }
 {
-    if clean[place] == 3 {
-        lay_field(values, clean, out, at, place + 3, EXTENSION)
+    if values[place] == 3 {
+        walk_field(pass, out, at, values[place + 3], EXTENSION)
     } else {
         Put::Next(at)
     }
 }
 
 // What follows an identity's form.
-fn lay_form(values: &[u32], clean: &mut [u32], out: &mut [u8], at: usize, place: usize) -> Put
-    requires { ⌜ Ready (now values) (now clean) at (place + 1) 3 ⌝ }
-    ensures { λ r. ⌜ Lays (drop 1 (identity [] place)) (now (values .entry)) at (place + 1)
-        (now (clean .entry)) (now (clean .exit)) (now (out .entry)) (now (out .exit)) r ⌝ }
+fn walk_form(pass: Pass, values: &[u32; PLACES], out: &mut [u8], at: usize, place: usize) -> Put
+    requires { ⌜ Ready at (place + 1) 3 ⌝ }
+    ensures { λ r. ⌜ Writes pass (Known (now (values .entry)) place) (drop 1 (identity [] place)) (now (values .entry)) at (place + 1)
+        (now (out .entry)) (now (out .exit)) r ⌝ }
 {
-    if clean[place] == 1 {
-        return lay_field(values, clean, out, at, place + 1, SNA);
+    if values[place] == 1 {
+        return walk_field(pass, out, at, values[place + 1], SNA);
     }
-    if clean[place] < 2 {
+    if values[place] < 2 {
         return Put::Next(at);
     }
-    match lay_field(values, clean, out, at, place + 2, SSI) {
-        Put::Next(next) => lay_extension(values, clean, out, next, place),
+    match walk_field(pass, out, at, values[place + 2], SSI) {
+        Put::Next(next) => walk_extension(pass, values, out, next, place),
         Put::Bad => Put::Bad,
     }
 }
 
 // An identity: its form, and what the form says.
-pub fn lay_identity(
-    values: &[u32],
-    clean: &mut [u32],
+pub fn walk_identity(
+    pass: Pass,
+    values: &[u32; PLACES],
     out: &mut [u8],
     at: usize,
     place: usize,
 ) -> Put
-    requires { ⌜ Ready (now values) (now clean) at place 4 ⌝ }
-    ensures { λ r. ⌜ Lays (identity [] place) (now (values .entry)) at place (now (clean .entry)) (now (clean .exit)) (now (out .entry)) (now (out .exit)) r ⌝ }
+    requires { ⌜ Ready at place 4 ⌝ }
+    ensures { λ r. ⌜ Writes pass Any (identity [] place) (now (values .entry)) at place (now (out .entry)) (now (out .exit)) r ⌝ }
 {
-    match lay_field(values, clean, out, at, place, FORM) {
-        Put::Next(next) => lay_form(values, clean, out, next, place),
+    match walk_field(pass, out, at, values[place], FORM) {
+        Put::Next(next) => walk_form(pass, values, out, next, place),
         Put::Bad => Put::Bad,
     }
 }
 
 // An item that is there.
-fn lay_item(
-    values: &[u32],
-    clean: &mut [u32],
+fn walk_item(
+    pass: Pass,
+    values: &[u32; PLACES],
     out: &mut [u8],
     at: usize,
     place: usize,
     items: Items,
 ) -> Put
-    requires { ⌜ Ready (now values) (now clean) at place (stride items) ⌝ }
-    ensures { λ r. ⌜ Lays (item items [] place) (now (values .entry)) at place
-        (now (clean .entry)) (now (clean .exit)) (now (out .entry)) (now (out .exit)) r ⌝ }
+    requires { ⌜ Ready at place (stride items) ⌝ }
+    ensures { λ r. ⌜ Writes pass Any (item items [] place) (now (values .entry)) at place (now (out .entry)) (now (out .exit)) r ⌝ }
 {
     match items {
-        Items::Numbers => lay_identity(values, clean, out, at, place),
-        Items::Letters => lay_field(values, clean, out, at, place, LETTER),
+        Items::Numbers => walk_identity(pass, values, out, at, place),
+        Items::Letters => walk_field(pass, out, at, values[place], LETTER),
     }
 }
 
 // Item `i`, at `place`, of the list whose count is at `count`, if it is there.
-fn lay_listed(
-    values: &[u32],
-    clean: &mut [u32],
+fn walk_listed(
+    pass: Pass,
+    values: &[u32; PLACES],
     out: &mut [u8],
     at: usize,
     count: usize,
@@ -140,29 +130,29 @@ fn lay_listed(
     items: Items,
     i: u8,
 ) -> Put
-    requires { ⌜ Ready (now values) (now clean) at place (stride items) × (count < place) ⌝ }
-    ensures { λ r. ⌜ Lays (item items (atLeast count (least items i) ∷ []) place) (now (values .entry)) at place
-        (now (clean .entry)) (now (clean .exit)) (now (out .entry)) (now (out .exit)) r ⌝ }
+    requires { ⌜ Ready at place (stride items) × (count < place) ⌝ }
+    ensures { λ r. ⌜ Writes pass (Known (now (values .entry)) count) (item items (atLeast count (least items i) ∷ []) place) (now (values .entry)) at place
+        (now (out .entry)) (now (out .exit)) r ⌝ }
 {
-    if least_for(items, i) <= clean[count] {
-        lay_item(values, clean, out, at, place, items)
+    if least_for(items, i) <= values[count] {
+        walk_item(pass, values, out, at, place, items)
     } else {
         Put::Next(at)
     }
 }
 
 // The items of the list whose count is at `count`.
-fn lay_items(
-    values: &[u32],
-    clean: &mut [u32],
+fn walk_items(
+    pass: Pass,
+    values: &[u32; PLACES],
     out: &mut [u8],
     from: usize,
     count: usize,
     items: Items,
 ) -> Put
-    requires { ⌜ Ready (now values) (now clean) from (count + 1) (stride items * times items) ⌝ }
-    ensures { λ r. ⌜ Lays (repeated items count (count + 1) 0 (times items)) (now (values .entry)) from (count + 1)
-        (now (clean .entry)) (now (clean .exit)) (now (out .entry)) (now (out .exit)) r ⌝ }
+    requires { ⌜ Ready from (count + 1) (stride items * times items) ⌝ }
+    ensures { λ r. ⌜ Writes pass (Known (now (values .entry)) count) (repeated items count (count + 1) 0 (times items)) (now (values .entry)) from (count + 1)
+        (now (out .entry)) (now (out .exit)) r ⌝ }
 {
     let many = times_of(items);
     let each = stride_of(items);
@@ -170,7 +160,7 @@ fn lay_items(
     let mut at = from;
     let mut i = 0;
     while i < many {
-        match lay_listed(values, clean, out, at, count, place, items, i) {
+        match walk_listed(pass, values, out, at, count, place, items, i) {
             Put::Next(next) => {
                 at = next;
             }
@@ -185,20 +175,19 @@ fn lay_items(
 }
 
 // A list: its count, and its items.
-pub fn lay_list(
-    values: &[u32],
-    clean: &mut [u32],
+pub fn walk_list(
+    pass: Pass,
+    values: &[u32; PLACES],
     out: &mut [u8],
     at: usize,
     place: usize,
     items: Items,
 ) -> Put
-    requires { ⌜ Ready (now values) (now clean) at place (1 + stride items * times items) ⌝ }
-    ensures { λ r. ⌜ Lays (rowsOf (shape.List items) [] place) (now (values .entry)) at place
-        (now (clean .entry)) (now (clean .exit)) (now (out .entry)) (now (out .exit)) r ⌝ }
+    requires { ⌜ Ready at place (1 + stride items * times items) ⌝ }
+    ensures { λ r. ⌜ Writes pass Any (rowsOf (shape.List items) [] place) (now (values .entry)) at place (now (out .entry)) (now (out .exit)) r ⌝ }
 {
-    match lay_field(values, clean, out, at, place, count_field(items)) {
-        Put::Next(next) => lay_items(values, clean, out, next, place, items),
+    match walk_field(pass, out, at, values[place], count_field(items)) {
+        Put::Next(next) => walk_items(pass, values, out, next, place, items),
         Put::Bad => Put::Bad,
     }
 }

@@ -1,9 +1,9 @@
-// Writing a frame: a first walk over the record decides and counts, a second lays the same bits into the lent bytes.
+// Writing a frame: one walk over the record judges and counts, and lays nothing; a second lays the bits into the lent bytes, and judges nothing.
 mod elements;
 mod items;
 
 use bits::put_field;
-use elements::lay_elements;
+use elements::walk_elements;
 use layout::Judged;
 use layout::Kind;
 use layout::PLACES;
@@ -21,38 +21,34 @@ ghost use lib.ListN.{length, drop};
 ghost use Rattle.bits.specs.Bits.{bytesFor, bytesOf};
 ghost use Rattle.bits.specs.Field.{putAt};
 ghost use Rattle.layout.specs.Frame as spec;
-ghost use Rattle.layout.specs.Frame.{places};
-ghost use Rattle.writing.specs.Lay.{mostBits};
-ghost use Rattle.writing.specs.Whole.{Frames, Counts, judgedBy};
+ghost use Rattle.writing.specs.Lay.{Over, mostBits};
+ghost use Rattle.writing.specs.Whole.{Counts, judgedBy};
 
-// What the writer's walk over a record finds: so many bits, a value without a code, or no group.
+// The two walks over a record.
+pub enum Pass {
+    Judge,
+    Lay,
+}
+
+// What a walk over a record finds: so many bits, a value without a code, or no group.
 pub enum Walked {
     Bits(usize),
     Reserved,
     NoGroup,
 }
 
-// Where writing goes on: at the next bit, or nowhere, as a value has no code.
+// Where a walk goes on: at the next bit, or nowhere, as a value has no code.
 pub enum Put {
     Next(usize),
     Bad,
 }
 
-// The same of a whole element, which may also be the group that is missing.
-pub enum Laying {
-    Next(usize),
+// The same of a whole element, which holds nothing or something; it may also be the group that is missing.
+pub enum Passed {
+    Empty(usize),
+    Held(usize),
     Bad,
     NoGroup,
-}
-
-// A whole frame: the head, then the elements.
-fn lay_frame(kind: Kind, values: &[u32], out: &mut [u8]) -> Walked
-    requires { ⌜ length (now values) ≡ places ⌝ }
-    ensures { λ r. ⌜ Frames kind (now (values .entry)) (now (out .entry)) (now (out .exit)) r ⌝ }
-{
-    put_field(out, 0, SS_TYPE_BITS, SS_TYPE);
-    put_field(out, SS_TYPE_BITS, ACTION_TYPE_BITS, action_type(kind));
-    lay_elements(kind, values, out)
 }
 
 // What a walk found, as a judgement of the record.
@@ -66,13 +62,22 @@ fn judged(walked: Walked) -> Judged
     }
 }
 
-// The walk that decides and counts: the bits go into a byte that is let go.
-fn walk(kind: Kind, values: &[u32]) -> Walked
-    requires { ⌜ length (now values) ≡ places ⌝ }
+// The walk that judges and counts. It lays nothing, so the bytes that it is lent are none of the caller's.
+fn walk(kind: Kind, values: &[u32; PLACES]) -> Walked
     ensures { λ r. ⌜ Counts kind (now (values .entry)) r ⌝ }
 {
-    let mut scratch = [0u8; 1];
-    lay_frame(kind, values, &mut scratch)
+    let mut none = [0u8; 1];
+    walk_elements(Pass::Judge, kind, values, &mut none)
+}
+
+// A whole frame that is known to be writable: the head, then the elements.
+fn lay_frame(kind: Kind, values: &[u32; PLACES], out: &mut [u8])
+    requires { ⌜ T (spec.valid kind (now values)) ⌝ }
+    ensures { λ _. ⌜ Over (now (out .entry)) (now (out .exit)) 0 (spec.write kind (now (values .entry))) ⌝ }
+{
+    put_field(out, 0, SS_TYPE_BITS, SS_TYPE);
+    put_field(out, SS_TYPE_BITS, ACTION_TYPE_BITS, action_type(kind));
+    walk_elements(Pass::Lay, kind, values, out);
 }
 
 // The spare bits of the last byte, as 0.
@@ -84,8 +89,8 @@ fn lay_spare(out: &mut [u8], bits: usize)
 }
 
 // A record that is known to be writable, into bytes that have room for it.
-fn lay_whole(kind: Kind, values: &[u32], out: &mut [u8], bits: usize)
-    requires { ⌜ (length (now values) ≡ places) × T (spec.valid kind (now values)) × (bits ≡ length (spec.write kind (now values)))
+fn lay_whole(kind: Kind, values: &[u32; PLACES], out: &mut [u8], bits: usize)
+    requires { ⌜ T (spec.valid kind (now values)) × (bits ≡ length (spec.write kind (now values)))
         × (bytesFor bits ≤ length (now out)) × (bits ≤ mostBits) ⌝ }
     ensures { λ _. ⌜ now (out .exit) ≡ bytesOf (spec.write kind (now (values .entry))) ++ drop (bytesFor bits) (now (out .entry)) ⌝ }
 {
@@ -94,8 +99,14 @@ fn lay_whole(kind: Kind, values: &[u32], out: &mut [u8], bits: usize)
 }
 
 // The same into the part of `out` from the byte `start` on, if there is room.
-fn write_part(kind: Kind, values: &[u32], out: &mut [u8], start: usize, bits: usize) -> Written
-    requires { ⌜ (length (now values) ≡ places) × T (spec.valid kind (now values)) × (bits ≡ length (spec.write kind (now values))) × (bits ≤ mostBits) ⌝ }
+fn write_part(
+    kind: Kind,
+    values: &[u32; PLACES],
+    out: &mut [u8],
+    start: usize,
+    bits: usize,
+) -> Written
+    requires { ⌜ T (spec.valid kind (now values)) × (bits ≡ length (spec.write kind (now values))) × (bits ≤ mostBits) ⌝ }
     ensures { λ r. ⌜ (r ≡ spec.writtenOf kind (now (values .entry)) (length (now (out .entry))) start)
         × (now (out .exit) ≡ spec.outputOf kind (now (values .entry)) (now (out .entry)) start) ⌝ }
 {

@@ -16,20 +16,19 @@ action-type-requires c κs = search needs
 put-field-requires-2 : tie.Need-put-field-requires-2
 put-field-requires-2 c κs = search needs
 
-lay-elements-requires : tie.Need-lay-elements-requires
-lay-elements-requires c κs = search needs
+walk-elements-requires : tie.Need-walk-elements-requires
+walk-elements-requires c κs = search needs
 
 same-length : tie.Need-same-length
 same-length c = search needs
 
 returns : tie.Need-returns
 returns c =
-    let s = c .before .before .before .before .before .before .before .before .before .before .before .before .before .before .before in
-    let put-field = c .before .before .before .before .before .before .before .before .before .before .before .put-field in
-    let action-type = c .before .before .before .before .before .before .before .action-type in
-    let put-field2 = c .before .before .before .before .before .before .put-field2 in
-    framed (s .args .kind) (s .args .values .now) (s .args .out .now) (put-field .last .0) (put-field2 .last .0) _ (put-field .ensures)
-    (put-field2 .ensures ∙ ap (λ v. putAt (put-field .last .0) 6 4 v) (action-type .ensures)) _ (c .before .before .lay-elements .ensures)
+    let a = c .before .before .before .before .before .before .before .before .before .before .before .before .before .before .args in
+    let one = c .before .before .before .before .before .before .before .before .before .before .before .put-field in
+    let two = c .before .before .before .before .before .before .put-field2 in
+    framed (a .kind) (a .values .now) (a .out .now) (one .last .0) (two .last .0) _ (one .ensures)
+    (two .ensures ∙ ap (λ v. putAt (one .last .0) 6 4 v) (c .before .before .before .before .before .before .before .action-type .ensures)) _ (c .before .before .before .before .before .before .before .before .before .before .before .before .before .before .pre) (c .before .before .walk-elements .ensures)
 
 pub lay-frame-spec : {M : Type 1} → statement M
 lay-frame-spec =
@@ -38,6 +37,6 @@ lay-frame-spec =
     put-field-requires
     action-type-requires
     put-field-requires-2
-    lay-elements-requires
+    walk-elements-requires
     same-length
     returns)

@@ -1,7 +1,6 @@
 -- `writing::lay_whole` meets its contract: the frame's bits, then 0 in the spare bits.
 -- Assumes nothing.
-use Rattle.layout.proofs.Frames.{valid-judged}
-use Rattle.writing.proofs.WriteLaws.{frame-over, laid-bytes}
+use Rattle.writing.proofs.WriteLaws.{laid-bytes}
 use Rattle.layout.specs.Frame.{write}
 use borrow.Author.Needs.{needs}
 use Rattle.writing.proofs.lay_whole.Statement.{statement}
@@ -18,13 +17,9 @@ same-length c = search needs
 
 returns : tie.Need-returns
 returns c =
-    let s = c .before .before .before .before .before .before .before .before .before .before in
-    let slice-known = c .before .before .before .before .before .before .before .before .slice-known in
-    let lay-frame = c .before .before .before .before .before .before .lay-frame in
-    laid-bytes (write (s .args .kind) (s .args .values .now)) (s .args .out .now) (lay-frame .last .1 .1 .0) _ (s .args .bits)
-    (frame-over (s .args .kind) (s .args .values .now) _ _ _ (valid-judged (s .args .kind) (s .args .values .now) (s .pre .1)) (lay-frame .ensures))
-    (s .pre .2) (s .pre .3) (c .before .before .lay-spare .ensures)
-    (λ i. slice-known .given i .fits)
+    let a = c .before .before .before .before .before .before .before .before .before .args in
+    laid-bytes (write (a .kind) (a .values .now)) (a .out .now) (c .before .before .before .before .before .before .lay-frame .last .1 .1 .0) _ (a .bits) (c .before .before .before .before .before .before .lay-frame .ensures)
+    (c .before .before .before .before .before .before .before .before .before .pre .1) (c .before .before .before .before .before .before .before .before .before .pre .2) (c .before .before .lay-spare .ensures) (λ i. c .before .before .before .before .before .before .before .before .slice-known .given i .fits)
 
 pub lay-whole-spec : {M : Type 1} → statement M
 lay-whole-spec = tie.close (tie.spec lay-frame-requires lay-spare-requires same-length returns)

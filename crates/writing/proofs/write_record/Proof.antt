@@ -16,11 +16,9 @@ enum-known-n c = search needs
 
 write-part-requires : tie.Need-write-part-requires
 write-part-requires c κs =
-    let s = c .before .before .before .before .before .before .before .before in
-    let walk = c .before .before .before .before .before .walk in
-    let n = c .before .before .before .n in
-    let k = counted (s .args .kind) (s .args .values .now) _ _ (n .given .1) (walk .ensures) in
-    (search needs, subst (λ (b : Bool). T b) (sym (k .0)) tt, k .1, k .2)
+    let a = c .before .before .before .before .before .before .args in
+    let k = counted (a .kind) (a .values .now) _ _ (c .before .before .n .given .1) (c .before .before .before .before .walk .ensures) in
+    (subst (λ (b : Bool). T b) (sym (k .0)) tt, k .1, k .2)
 
 enum-told : tie.Need-enum-told
 enum-told c = search needs
@@ -36,15 +34,15 @@ returns c = search needs
 
 returns-2 : tie.Need-returns-2
 returns-2 c =
-    let s = c .before .before .before .before .before in
-    refused-record (s .args .kind) (s .args .values .now) (s .args .out .now) (s .args .start) _
-    (refused-by (s .args .kind) (s .args .values .now) _ _ (c .enum-told .given .1) (c .before .before .walk .ensures))
+    let a = c .before .before .before .before .args in
+    refused-record (a .kind) (a .values .now) (a .out .now) (a .start) _
+    (refused-by (a .kind) (a .values .now) _ _ (c .enum-told .given .1) (c .before .before .walk .ensures))
 
 returns-3 : tie.Need-returns-3
 returns-3 c =
-    let s = c .before .before .before .before .before in
-    refused-record (s .args .kind) (s .args .values .now) (s .args .out .now) (s .args .start) _
-    (refused-by (s .args .kind) (s .args .values .now) _ _ (c .enum-told2 .given .1) (c .before .before .walk .ensures))
+    let a = c .before .before .before .before .args in
+    refused-record (a .kind) (a .values .now) (a .out .now) (a .start) _
+    (refused-by (a .kind) (a .values .now) _ _ (c .enum-told2 .given .1) (c .before .before .walk .ensures))
 
 pub write-record-spec : {M : Type 1} → statement M
 write-record-spec =

@@ -1,9 +1,9 @@
--- `reading::elements::read_element` meets its contract: the shape's rows under the condition, or none of them.
+-- `reading::elements::read_element` meets its contract: the shape's rows under the line's conditions, or none of them.
 -- Assumes nothing.
 use mathlib.Core.Path.{sym, _∙_}
 use native.Mathlib.Omega.{arith}
-use Rattle.layout.specs.Shape.{conditionsOf}
-use Rattle.table.proofs.Absent.{present-when, shut-element, passes, length-shape}
+use Rattle.table.specs.Lines.{hangOf, shapeOf}
+use Rattle.table.proofs.Absent.{present-hang, shut-element, passes, length-shape}
 use Rattle.reading.specs.Reads.{whole}
 use Rattle.reading.proofs.ReadLaws.{reading}
 use Rattle.table.proofs.ShapeLaws.{shape-under}
@@ -14,20 +14,23 @@ use Rattle.reading.proofs.elements.read_element.Tie as tie
 there-requires : tie.Need-there-requires
 there-requires c κs = search needs
 
+shape-of-requires : tie.Need-shape-of-requires
+shape-of-requires c κs = search needs
+
 read-shape-requires : tie.Need-read-shape-requires
-read-shape-requires c κs = search needs
+read-shape-requires c κs = rw (c .before .shape-of .ensures) (c .before .before .before .before .before .before .before .pre)
 
 same-length : tie.Need-same-length
 same-length c = search needs
 
 returns : tie.Need-returns
 returns c =
-    let i = c .before .before .before .before in
+    let i = c .before .before .before .before .before in
     let s = i .before .before .before .before .before in
     let a = s .args in
-    let on = present-when (a .element .0) (a .values .now) (a .place) (s .pre .2) ∙ sym (i .before .there .ensures) ∙ i .if1 .taken in
-    shape-under (reading (whole (a .frame .now) (a .bits))) (a .element .1) _ (a .at) (a .place) (a .values .now) _ _ on
-    (c .before .before .read-shape .ensures)
+    let on = present-hang (a .line) (a .values .now) (a .place) (s .pre .2) ∙ sym (i .before .there .ensures) ∙ i .if1 .taken in
+    shape-under (reading (whole (a .frame .now) (a .bits))) (shapeOf (a .line)) _ (a .at) (a .place) (a .values .now) _ _ on
+    (rw (← c .before .before .before .before .shape-of .ensures) (c .before .before .read-shape .ensures))
 
 same-length-2 : tie.Need-same-length-2
 same-length-2 c = search needs
@@ -36,12 +39,12 @@ returns-2 : tie.Need-returns-2
 returns-2 c =
     let s = c .before .before .before .before .before in
     let a = s .args in
-    let e = a .element in
-    let shut = shut-element (e .0) (e .1) (a .place) (a .values .now) (sym (c .before .there .ensures) ∙ c .if1 .left) (s .pre .2) in
+    let shape = shapeOf (a .line) in
+    let shut = shut-element (a .line) shape (a .place) (a .values .now) (sym (c .before .there .ensures) ∙ c .if1 .left) (s .pre .2) in
     passes (reading (whole (a .frame .now) (a .bits))) (a .at) (a .place) (a .values .now) _ shut (s .pre .2)
-    (omega (arith, length-shape (e .1) (conditionsOf (e .0)) (a .place)))
+    (omega (arith, length-shape shape (hangOf (a .line)) (a .place)))
 
 pub read-element-spec : {M : Type 1} → statement M
 read-element-spec =
     tie.close
-    (tie.spec there-requires read-shape-requires same-length returns same-length-2 returns-2)
+    (tie.spec there-requires shape-of-requires read-shape-requires same-length returns same-length-2 returns-2)

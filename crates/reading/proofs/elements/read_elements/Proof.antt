@@ -3,10 +3,12 @@
 use Prim.Native.Nat.{_+_, _-_, _≤_}
 use mathlib.Core.Path.{_≡_, sym, ap, _∙_}
 use native.Mathlib.Omega.{arith}
-use lib.ListN.{length, take, getD}
+use lib.ListN.{length}
+use Rattle.layout.specs.declared.Kind.{Kind}
 use Rattle.layout.specs.Frame.{places, asReading}
-use Rattle.table.specs.Lines.{past}
-use Rattle.table.proofs.TableLaws.{Held, table-held}
+use Rattle.layout.specs.Shape.{span}
+use Rattle.table.specs.Lines.{shapeOf}
+use Rattle.table.proofs.TableLaws.{Own}
 use Rattle.reading.specs.Reads.{whole}
 use Rattle.reading.proofs.ReadLaws.{whole-length}
 use Rattle.reading.proofs.Going.{Going, going-none, turn-room, turn-sound, turn-span, turn-next, turn-stop, going-over, going-end}
@@ -14,58 +16,55 @@ use borrow.Author.Needs.{needs}
 use Rattle.reading.proofs.elements.read_elements.Statement.{statement}
 use Rattle.reading.proofs.elements.read_elements.Tie as tie
 
+-- an invariant cannot name the kind: it speaks of the kind whose lines the loop goes over
 abbrev Inv-loop : tie.InvT-loop
-Inv-loop frame bits from table count values₀ at₀ place₀ k₀ values at place k = Going (take count table) (whole frame bits) from values at place k
+Inv-loop frame bits from end values₀ at₀ place₀ k₀ values at place k = (kind : Kind) → Own kind k₀ end → Going kind (whole frame bits) from values at place k
 
 abbrev μ-loop : tie.MeasureT-loop
-μ-loop frame bits from table count values₀ at₀ place₀ k₀ values at place k = count - k
+μ-loop frame bits from end values₀ at₀ place₀ k₀ values at place k = end - k
 
--- the code's table is the kind's
-held : (c : tie.After-count-of Inv-loop μ-loop) → Held (c .before .before .before .args .kind) (c .before .table-of .result) (c .count-of .result)
-held c = table-held (c .before .before .before .args .kind) _ _ (c .before .table-of .ensures) (c .count-of .ensures)
+-- the lines that the loop goes over are the kind's
+own : (c : tie.After-first-line Inv-loop μ-loop) → Own (c .before .before .before .args .kind) (c .first-line .result) (c .before .end-line .result)
+own c = record { begins = c .first-line .ensures; ends = c .before .end-line .ensures }
+
+-- what the invariant says of the kind
+going : (c : tie.At-loop Inv-loop μ-loop) → let a = c .before .before .before .before .args in
+    Going (a .kind) (whole (a .frame .now) (a .bits)) (a .from) (c .loop .values) (c .loop .at) (c .loop .place) (c .loop .k)
+going c = c .loop .inv (c .before .before .before .before .args .kind) (own (c .before))
 
 -- the frame is as long as its bit count says
-bits-lent : (c : tie.After-count-of Inv-loop μ-loop)
+bits-lent : (c : tie.After-first-line Inv-loop μ-loop)
     → length (whole (c .before .before .before .args .frame .now) (c .before .before .before .args .bits)) ≡ c .before .before .before .args .bits
 bits-lent c = let s = c .before .before .before in whole-length (s .args .frame .now) (s .args .bits) (s .pre)
 
 -- in a turn there is room for the element
-room : (c : tie.In-loop Inv-loop μ-loop)
-    → c .before .loop .place + getD (c .before .before .before .table-of .result) (c .before .loop .k) past .2 ≤ places
-room c =
-    let t = held (c .before .before) in
-    let l = c .before .loop in
-    omega (arith, turn-room t (l .inv) (c .loop-test .taken), turn-span t (l .inv) (c .loop-test .taken))
+room : (c : tie.After-line Inv-loop μ-loop) → c .before .before .loop .place + span (shapeOf (c .line .result)) ≤ places
+room c = let l = c .before .before in turn-room (own (l .before)) (going l) (c .before .loop-test .taken) (c .line .ensures)
 
-table-of-requires : tie.Need-table-of-requires Inv-loop μ-loop
-table-of-requires c κs = search needs
+end-line-requires : tie.Need-end-line-requires Inv-loop μ-loop
+end-line-requires c κs = search needs
 
-count-of-requires : tie.Need-count-of-requires Inv-loop μ-loop
-count-of-requires c κs = search needs
+first-line-requires : tie.Need-first-line-requires Inv-loop μ-loop
+first-line-requires c κs = search needs
 
 loop-holds : tie.Need-loop-holds Inv-loop μ-loop
-loop-holds c =
-    let s = c .before .before .before in
-    going-none (s .args .kind) _ _ (s .args .from) (held c .same)
+loop-holds c = λ kind own. going-none kind _ _ _ (c .before .before .before .args .from) own
 
-mul-element : tie.Need-mul-element Inv-loop μ-loop
-mul-element c = omega (arith, held (c .before .before) .few)
-
-array-copy-out-element : tie.Need-array-copy-out-element Inv-loop μ-loop
-array-copy-out-element c = omega (arith, held (c .before .before) .few)
+line-requires : tie.Need-line-requires Inv-loop μ-loop
+line-requires c κs = search needs
 
 slice-aggregate-read-element : tie.Need-slice-aggregate-read-element Inv-loop μ-loop
-slice-aggregate-read-element c = sym (c .before .before .before .loop .inv .size)
+slice-aggregate-read-element c = sym (going (c .before .before .before) .size)
 
 read-element-requires : tie.Need-read-element-requires Inv-loop μ-loop
 read-element-requires c κs =
-    let i = c .before .before in
-    let t = held (i .before .before) in
-    let l = i .before .loop in (
-      i .before .before .before .before .before .pre,
-      omega (arith, turn-room t (l .inv) (i .loop-test .taken), l .inv .size),
-      l .inv .clear,
-      turn-sound t (l .inv) (i .loop-test .taken),
+    let t = c .before in
+    let l = t .before .before in
+    let g = going l in (
+      l .before .before .before .before .pre,
+      omega (arith, room t, g .size),
+      g .clear,
+      turn-sound (own (l .before)) g (t .before .loop-test .taken) (t .line .ensures),
     )
 
 enum-known-next : tie.Need-enum-known-next Inv-loop μ-loop
@@ -80,32 +79,33 @@ refused-requires c κs = search needs
 returns : tie.Need-returns Inv-loop μ-loop
 unfolding asReading
 returns c =
-    let i = c .before .before .before .before .before .before .before .before in
+    let t = c .before .before .before .before .before .before .before in
+    let l = t .before .before in
     let f = c .before .before .before .before .before .read-element .ensures in
-    c .refused .ensures
-    ∙ ap asReading (sym (turn-stop (held (i .before .before)) (i .before .loop .inv) (i .loop-test .taken) f (c .before .before .n .given .1)))
+    let stop = turn-stop (own (l .before)) (going l) (t .before .loop-test .taken) (t .line .ensures) f (c .before .before .n .given .1) in
+    c .refused .ensures ∙ ap asReading (sym stop)
 
-cast-place : tie.Need-cast-place Inv-loop μ-loop
-cast-place c = omega (arith, room (c .before .before .before .before .before .before .before .before))
+places-of-requires : tie.Need-places-of-requires Inv-loop μ-loop
+places-of-requires c κs = search needs
 
 add-place : tie.Need-add-place Inv-loop μ-loop
-add-place c = omega (arith, room (c .before .before .before .before .before .before .before .before))
+add-place c =
+    let t = c .before .before .before .before .before .before .before in
+    let l = t .before .before in
+    omega (arith, room t, c .places-of .ensures, turn-span (own (l .before)) (going l) (t .before .loop-test .taken) (t .line .ensures))
 
 add-k : tie.Need-add-k Inv-loop μ-loop
-add-k c =
-    let i = c .before .before .before .before .before .before .before .before in
-    omega (arith, held (i .before .before) .few, i .loop-test .taken)
+add-k c = omega (arith, c .before .before .before .before .before .before .before .before .loop-test .taken)
 
 loop-less : tie.Need-loop-less Inv-loop μ-loop
 loop-less c = omega (arith, c .before .before .before .before .before .before .before .before .loop-test .taken)
 
 loop-again : tie.Need-loop-again Inv-loop μ-loop
 loop-again c =
-    let i = c .before .before .before .before .before .before .before .before in
-    let t = held (i .before .before) in
-    let l = i .before .loop in
+    let t = c .before .before .before .before .before .before .before in
     let f = c .before .before .before .before .before .read-element .ensures in
-    turn-next t (l .inv) (i .loop-test .taken) f (turn-span t (l .inv) (i .loop-test .taken)) (c .before .before .next .given .1)
+    λ kind own. turn-next own (t .before .before .loop .inv kind own) (t .before .loop-test .taken) (t .line .ensures) f (c .places-of .ensures)
+    (c .before .before .next .given .1)
 
 refused-requires-2 : tie.Need-refused-requires-2 Inv-loop μ-loop
 refused-requires-2 c κs = search needs
@@ -114,13 +114,13 @@ returns-2 : tie.Need-returns-2 Inv-loop μ-loop
 unfolding asReading
 returns-2 c =
     let l = c .before .before .before in
-    let over = going-over (held (l .before)) (l .loop .inv) (c .before .before .loop-test .left) in
+    let over = going-over (own (l .before)) (going l) (c .before .before .loop-test .left) in
     c .refused2 .ensures ∙ ap asReading (sym (over (omega (arith, bits-lent (l .before), c .before .if1 .taken))))
 
 returns-3 : tie.Need-returns-3 Inv-loop μ-loop
 returns-3 c =
     let l = c .before .before in
-    sym (going-end (held (l .before)) (l .loop .inv) (c .before .loop-test .left) (omega (arith, bits-lent (l .before), c .if1 .left)))
+    sym (going-end (own (l .before)) (going l) (c .before .loop-test .left) (omega (arith, bits-lent (l .before), c .if1 .left)))
 
 pub read-elements-spec : {M : Type 1} → statement M
 read-elements-spec =
@@ -128,18 +128,17 @@ read-elements-spec =
     (tie.spec
     Inv-loop
     μ-loop
-    table-of-requires
-    count-of-requires
+    end-line-requires
+    first-line-requires
     loop-holds
-    mul-element
-    array-copy-out-element
+    line-requires
     slice-aggregate-read-element
     read-element-requires
     enum-known-next
     enum-known-n
     refused-requires
     returns
-    cast-place
+    places-of-requires
     add-place
     add-k
     loop-less

@@ -1,0 +1,13 @@
+-- `table::lines::places_of` meets its contract.
+-- Assumes nothing.
+use mathlib.Core.Path.{refl}
+use Rattle.table.specs.Lines.{placesOf}
+use Rattle.table.proofs.lines.places_of.Statement.{statement}
+use Rattle.table.proofs.lines.places_of.Tie as tie
+
+returns : tie.Need-returns
+unfolding placesOf
+returns c = refl
+
+pub places-of-spec : {M : Type 1} → statement M
+places-of-spec = tie.close (tie.spec returns)
