@@ -66,7 +66,7 @@ optionIs o place v = All o (pBit place) place v
 
 -- ---- elements
 abbrev pub element : Shape → When → Placed ℕ
-element shape when place = record { elements = record { 0 = when; 1 = shape; 2 = span shape } ∷ []; known = place }
+element shape when place = record { elements = record { 0 = when; 1 = shape } ∷ []; known = place }
 
 abbrev pub number : ℕ → When → Placed ℕ
 number width = element (Number width)

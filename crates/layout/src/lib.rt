@@ -43,8 +43,8 @@ pub enum Shape {
     Nothing(u8),
 }
 
-// One line of a table: when it is there, what it is made of, and how many places it takes.
-pub struct Element(pub When, pub Shape, pub u8);
+// One line of a table: when it is there, and what it is made of.
+pub struct Element(pub When, pub Shape);
 
 // A frame's values, one place a row of its table, after SS-Type and action type; 0 where the row is not there.
 pub struct Record {

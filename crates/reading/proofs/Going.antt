@@ -22,7 +22,7 @@ use Rattle.layout.specs.Read.{frame, refused, readRows}
 use Rattle.layout.specs.Shape.{rowsOf, span, unrolled}
 use Rattle.layout.specs.Table.{tableOf, ssType, actionType}
 use Rattle.layout.specs.Frame.{places, rows, read, readBytes, asReading, readingOf}
-use Rattle.table.specs.Lines.{firstLine, past, lineNumbers, hangOf, shapeOf, placesOf}
+use Rattle.table.specs.Lines.{firstLine, past, lineNumber, hangOf, shapeOf, placesOf}
 use Rattle.table.specs.Sound.{Clear, sound}
 use Rattle.reading.specs.Reads.{whole, onward, Reads}
 use Rattle.reading.proofs.ReadLaws.{reading, whole-length}
@@ -56,7 +56,7 @@ going-none kind begin end bits from own =
 module _ {kind : Kind} {begin end : ℕ} (own : Own kind begin end) {bits : List Bool} {from : ℕ} {vs : List ℕ} {at p k : ℕ}
     (now : Going kind bits from vs at p k) where
   -- ---- a turn: the line k, by its number
-  module _ {n : ℕ} (less : k < end) (is : n ≡ getD lineNumbers k 0) where
+  module _ {n : ℕ} (less : k < end) (is : n ≡ lineNumber k) where
     inside : now .passed < length (tableOf kind)
     inside = omega (arith, now .here, own .ends)
 

@@ -6,8 +6,7 @@ use mathlib.Core.Bool.{Bool, _&&_}
 use mathlib.Core.List.{List, _∷_, _++_, map}
 use native.Mathlib.Numerals.{add-one}
 use native.Mathlib.Omega.{arith}
-use borrow.Author.Tests.{eqb-true}
-use lib.Dec.{T, eqb, leb, leb→le}
+use lib.Dec.{T, leb, leb→le}
 use lib.ListN.{length, take, drop, getD, List·getD-map}
 use lib.Seq.{drop-cons, getD-take, getD-drop}
 use Rattle.layout.specs.declared.Element.{Element}
@@ -18,9 +17,9 @@ use Rattle.layout.specs.Row.{Condition}
 use Rattle.layout.specs.Shape.{rowsOf, span, spans, conditionsOf, unrolled}
 use Rattle.layout.specs.Table.{define, defineAck, cancel, cancelAck, tableOf}
 use Rattle.layout.specs.Frame.{places}
-use Rattle.table.specs.Lines.{lines, firstLine, past, whenNumber, shapeNumber, numberOf, lineNumbers, hangOf, shapeOf, placesOf}
+use Rattle.table.specs.Lines.{lines, firstLine, past, whenNumber, shapeNumber, numberOf, lineNumber, hangOf, shapeOf, placesOf}
 use Rattle.table.specs.Sound.{sound, able}
-use Rattle.layout.proofs.Tests.{left, right, told}
+use Rattle.layout.proofs.Tests.{left, right}
 
 -- ---- the tests, computed once for each table
 tables-able : (kind : Kind) → T (able (tableOf kind) 0)
@@ -50,7 +49,7 @@ none-of (suc n) k h = omega (arith, none-of n k (h .0), h .1)
 pub record Said (n : ℕ) (e : Element) : Type 0 where
   pub hang : hangOf n ≡ conditionsOf (e .0)
   pub shape : shapeOf n ≡ e .1
-  pub takes : placesOf n ≡ e .2
+  pub takes : placesOf n ≡ span (e .1)
 
 -- of a number, and of an element: the conditions, the shape, the places
 abbrev Parts : Type 0
@@ -60,22 +59,19 @@ abbrev ofNumber : ℕ → Parts
 ofNumber n = (hangOf n, shapeOf n, placesOf n)
 
 abbrev ofElement : Element → Parts
-ofElement e = (conditionsOf (e .0), e .1, e .2)
+ofElement e = (conditionsOf (e .0), e .1, span (e .1))
 
--- computed once for all lines
-all-said : map ofNumber lineNumbers ≡ map ofElement lines
-unfolding hangOf shapeOf placesOf lineNumbers lines numberOf whenNumber shapeNumber define defineAck cancel cancelAck span spans
+-- computed once for all lines, and for what stands past the last
+all-said : map (λ (e : Element). ofNumber (numberOf e)) (past ∷ lines) ≡ map ofElement (past ∷ lines)
+unfolding hangOf shapeOf placesOf lines numberOf whenNumber shapeNumber define defineAck cancel cancelAck span spans
 all-said = refl
 
-past-said : ofNumber 0 ≡ ofElement past
-unfolding hangOf shapeOf placesOf
-past-said = refl
-
-line-said : (k : ℕ) → ofNumber (getD lineNumbers k 0) ≡ ofElement (getD lines k past)
+line-said : (k : ℕ) → ofNumber (lineNumber k) ≡ ofElement (getD lines k past)
+unfolding lineNumber
 line-said k =
-    sym (List·getD-map ofNumber lineNumbers k 0)
-    ∙ ap₂ (λ (l : List Parts) (d : Parts). getD l k d) all-said past-said
-    ∙ List·getD-map ofElement lines k past
+    sym (List·getD-map (λ (e : Element). ofNumber (numberOf e)) (past ∷ lines) (suc k) past)
+    ∙ ap₂ (λ (l : List Parts) (d : Parts). getD l (suc k) d) all-said (ap (λ (l : List Parts). getD l 0 (ofElement past)) all-said)
+    ∙ List·getD-map ofElement (past ∷ lines) (suc k) past
 
 -- a kind's own lines stand from its first on
 own-lines : (kind : Kind) → take (length (tableOf kind)) (drop (firstLine kind) lines) ≡ tableOf kind
@@ -92,10 +88,10 @@ own-line kind j h =
     ∙ ap (λ (l : List Element). getD l j past) (own-lines kind)
 
 -- the line k is the element j of its kind
-pub said : (kind : Kind) (k j n : ℕ) → k ≡ firstLine kind + j → j < length (tableOf kind) → n ≡ getD lineNumbers k 0 → Said n (getD (tableOf kind) j past)
+pub said : (kind : Kind) (k j n : ℕ) → k ≡ firstLine kind + j → j < length (tableOf kind) → n ≡ lineNumber k → Said n (getD (tableOf kind) j past)
 said kind k j n e h d =
     let says : ofNumber n ≡ ofElement (getD (tableOf kind) j past) =
-    ap ofNumber (d ∙ ap (λ (i : ℕ). getD lineNumbers i 0) e) ∙ line-said (firstLine kind + j) ∙ ap ofElement (own-line kind j h) in
+    ap ofNumber (d ∙ ap lineNumber e) ∙ line-said (firstLine kind + j) ∙ ap ofElement (own-line kind j h) in
     record { hang = ap (λ (t : Parts). t .0) says; shape = ap (λ (t : Parts). t .1) says; takes = ap (λ (t : Parts). t .2) says }
 
 -- a kind's lines are those from its first to its end: what a loop over them goes by, which cannot name the kind
@@ -111,57 +107,41 @@ pub record Placed (es : List Element) (p k : ℕ) : Type 0 where
 pub placed-none : (kind : Kind) → Placed (tableOf kind) 0 0
 placed-none kind = let small : spans (tableOf kind) ≤ places = leb→le _ _ (tables-room kind) in record { able = tables-able kind; room = omega arith }
 
-module _ (es : List Element) (p k : ℕ) (e : Element) (now : Placed es p k) (inside : k < length es) (is : getD es k past ≡ e) where
+module _ {es : List Element} {p k : ℕ} (now : Placed es p k) (inside : k < length es) where
+  abbrev e : Element
+  e = getD es k past
+
   pub first : drop k es ≡ e ∷ drop (k + 1) es
-  first = drop-cons es k past inside ∙ ap₂ (λ (x : Element) (n : ℕ). x ∷ drop n es) is (sym (add-one k))
+  first = drop-cons es k past inside ∙ ap (λ (n : ℕ). e ∷ drop n es) (sym (add-one k))
 
   later : Bool
   later = able (drop (k + 1) es) (p + span (e .1))
 
-  sized : Bool
-  sized = eqb (e .2) (span (e .1))
-
-  here : T (sized && sound (e .1) p && later)
-  unfolding able sized later
+  here : T (sound (e .1) p && later)
+  unfolding able later
   here = subst (λ (l : List Element). T (able l p)) first (now .able)
 
   sizes : span (e .1) + spans (drop (k + 1) es) ≡ spans (drop k es)
   unfolding spans
   sizes = sym (ap spans first)
 
-  pub placed-span : e .2 ≡ span (e .1)
-  unfolding sized
-  placed-span = eqb-true (e .2) (span (e .1)) (told sized (left sized (sound (e .1) p) (left (sized && sound (e .1) p) later here)))
+  -- by the number of its line: what both walks go by
+  module _ {n : ℕ} (says : Said n e) where
+    pub line-room : p + span (shapeOf n) ≤ places
+    line-room = rw (says .shape) (omega (arith, sizes, now .room))
 
-  pub placed-sound : T (sound (e .1) p)
-  placed-sound = right sized (sound (e .1) p) (left (sized && sound (e .1) p) later here)
+    pub line-sound : T (sound (shapeOf n) p)
+    line-sound = rw (says .shape) (left (sound (e .1) p) later here)
 
-  pub placed-room : p + span (e .1) ≤ places
-  placed-room = omega (arith, sizes, now .room)
+    -- the places that it takes
+    pub line-span : placesOf n ≡ span (shapeOf n)
+    line-span = rw (says .shape) (says .takes)
 
-  pub placed-more : Placed es (p + span (e .1)) (k + 1)
-  unfolding later
-  placed-more = record { able = right (sized && sound (e .1) p) later here; room = omega (arith, sizes, now .room) }
+    -- its rows, and those of the lines behind it
+    pub line-rows : unrolled (drop k es) p ≡ rowsOf (shapeOf n) (hangOf n) p ++ unrolled (drop (k + 1) es) (p + placesOf n)
+    unfolding unrolled
+    line-rows = rw (line-span, says .shape, says .hang) (ap (λ (l : List Element). unrolled l p) first)
 
--- the same of the number of its line: what both walks go by
-module _ {es : List Element} {p k n : ℕ} (now : Placed es p k) (inside : k < length es) (says : Said n (getD es k past)) where
-  abbrev e : Element
-  e = getD es k past
-
-  pub line-room : p + span (shapeOf n) ≤ places
-  line-room = rw (says .shape) (placed-room es p k e now inside refl)
-
-  pub line-sound : T (sound (shapeOf n) p)
-  line-sound = rw (says .shape) (placed-sound es p k e now inside refl)
-
-  -- the places that it takes
-  pub line-span : placesOf n ≡ span (shapeOf n)
-  line-span = rw (says .takes, says .shape) (placed-span es p k e now inside refl)
-
-  -- its rows, and those of the lines behind it
-  pub line-rows : unrolled (drop k es) p ≡ rowsOf (shapeOf n) (hangOf n) p ++ unrolled (drop (k + 1) es) (p + placesOf n)
-  unfolding unrolled
-  line-rows = rw (line-span, says .shape, says .hang) (ap (λ (l : List Element). unrolled l p) (first es p k e now inside refl))
-
-  pub line-more : Placed es (p + placesOf n) (k + 1)
-  line-more = rw (line-span, says .shape) (placed-more es p k e now inside refl)
+    pub line-more : Placed es (p + placesOf n) (k + 1)
+    unfolding later
+    line-more = rw (says .takes) (record { able = right (sound (e .1) p) later here; room = omega (arith, sizes, now .room) })

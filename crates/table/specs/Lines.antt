@@ -2,7 +2,7 @@
 -- Assumes nothing.
 use Prim.Native.Nat.{ℕ, _+_, _*_, _/_, _%_, _^_}
 use mathlib.Core.Bool.{cond}
-use mathlib.Core.List.{List, [], _∷_, _++_, map}
+use mathlib.Core.List.{List, [], _∷_, _++_}
 use lib.Dec.{eqb}
 use lib.ListN.{length, getD}
 use Rattle.layout.specs.declared.Kind.{Kind}
@@ -15,6 +15,7 @@ use Rattle.layout.specs.declared.Shape.the-variants.{Number, Choice, Identity, 
 use Rattle.layout.specs.declared.Shape.the-variants as shape
 use Rattle.layout.specs.declared.Element.{Element}
 use Rattle.layout.specs.Row.{Condition, is}
+use Rattle.layout.specs.Shape.{span}
 use Rattle.layout.specs.Table.{tableOf}
 
 -- all tables, one behind the other
@@ -30,7 +31,7 @@ firstLine CancelAck = length (tableOf Define ++ tableOf DefineAck ++ tableOf Can
 
 -- what stands past the last line
 abbrev pub past : Element
-past = record { 0 = Always; 1 = Number 0; 2 = 0 }
+past = record { 0 = Always; 1 = Number 0 }
 
 -- ---- a line as one number: what the bytes are, from the lowest on
 -- a place and the value that it holds, 0 where there is no condition; the outer and the inner place of a chain, which hold 1
@@ -78,10 +79,10 @@ shapeNumber (Missing q) = 6 * shaped + q * first
 shapeNumber (Nothing o) = 7 * shaped + o * first
 
 unfoldable pub numberOf : Element → ℕ
-numberOf e = whenNumber (e .0) + shapeNumber (e .1) + e .2 * taken
+numberOf e = whenNumber (e .0) + shapeNumber (e .1) + span (e .1) * taken
 
-unfoldable pub lineNumbers : List ℕ
-lineNumbers = map numberOf lines
+unfoldable pub lineNumber : ℕ → ℕ
+lineNumber k = numberOf (getD lines k past)
 
 -- ---- and back
 -- the conditions that a line's number says, outermost first

@@ -4,7 +4,7 @@ use Prim.Native.Nat.{ℕ, _+_, _≤_}
 use mathlib.Core.Path.{_≡_}
 use mathlib.Core.Bool.{Bool, true, _&&_}
 use mathlib.Core.List.{List, [], _∷_}
-use lib.Dec.{eqb, leb, ltb}
+use lib.Dec.{leb, ltb}
 use lib.ListN.{getD}
 use Rattle.layout.specs.declared.Element.{Element}
 use Rattle.layout.specs.declared.Shape.{Shape}
@@ -26,7 +26,7 @@ sound Ending p = true
 sound (Missing q) p = ltb q p
 sound (Nothing o) p = ltb o p
 
--- every element takes as many places as its shape has rows, and can be read and written at its place
+-- every element can be read and written at its place
 unfoldable pub able : List Element → ℕ → Bool
 able [] p = true
-able (e ∷ es) p = eqb (e .2) (span (e .1)) && sound (e .1) p && able es (p + span (e .1))
+able (e ∷ es) p = sound (e .1) p && able es (p + span (e .1))

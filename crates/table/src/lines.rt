@@ -7,10 +7,10 @@ use layout::Kind;
 use layout::Shape;
 ghost use mathlib.Core.Path.{_≡_};
 ghost use Prim.Native.Nat.{_/_, _%_, _+_, _<_};
-ghost use lib.ListN.{length, getD};
+ghost use lib.ListN.{length};
 ghost use Rattle.layout.specs.Table.{tableOf, actionType};
 ghost use Rattle.layout.specs.Row.{present};
-ghost use Rattle.table.specs.Lines.{lineNumbers, firstLine, hangOf, shapeOf, placesOf};
+ghost use Rattle.table.specs.Lines.{lineNumber, firstLine, hangOf, shapeOf, placesOf};
 
 // The bytes of a line's number, from the lowest on. The element is there where PLACE holds VALUE, or always, where VALUE is 0;
 // in a chain OUTER and INNER hold 1 besides. It has a shape, the shape's two numbers, and takes so many places.
@@ -131,9 +131,12 @@ const ACK_NOTHING: u64 = NOTHING + ACK_O * FIRST + ACK_OPTION;
 
 const GROUP_LINE: u64 = IDENTITY + NO_CALL;
 
+// Behind the last line: a number of no bits.
+const PAST: u64 = TAKES;
+
 // Line `k` of the tables, one behind the other.
 pub fn line(k: u8) -> u64
-    ensures { λ r. ⌜ r ≡ getD lineNumbers k 0 ⌝ }
+    ensures { λ r. ⌜ r ≡ lineNumber k ⌝ }
 {
     match k {
         // Table 19.
@@ -185,7 +188,7 @@ pub fn line(k: u8) -> u64
         42 => CALL_LINE,
         43 => GROUP_LINE,
         44 => BIT,
-        45..=255 => 0,
+        45..=255 => PAST,
     }
 }
 

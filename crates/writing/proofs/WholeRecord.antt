@@ -22,7 +22,7 @@ use Rattle.layout.specs.Write.{Laid, lay, good, goodButGroup, vals, emit}
 use Rattle.layout.specs.Chain.{looks, earlier, chained, chainedFrom, bound, bounded}
 use Rattle.layout.proofs.Tests.{left, right, and-true, and-false, all-append, all-weaker}
 use Rattle.layout.proofs.Chains.{tables-chained, tables-bounded, chain-first, looks-agree, missing-agrees}
-use Rattle.table.specs.Lines.{firstLine, past, lineNumbers, hangOf, shapeOf, placesOf}
+use Rattle.table.specs.Lines.{firstLine, past, lineNumber, hangOf, shapeOf, placesOf}
 use Rattle.table.specs.Sound.{Clear, sound}
 use Rattle.table.proofs.Absent.{length-shape}
 use Rattle.table.proofs.Walks.{clear-later}
@@ -124,7 +124,7 @@ module _ {pass : Pass} {kind : Kind} {s out₀ out : List ℕ} {grouped : Bool} 
       here ∙ sym (ap (λ (l : List Laid). take p (vals l)) (now .whole) ∙ ap (take p) (vals-append (now .done) rest) ∙ take-at (vals (now .done)) (vals rest) p n)
 
   -- ---- a turn: the line's number n
-  module _ (less : k < end) {n : ℕ} (number : n ≡ getD lineNumbers k 0) where
+  module _ (less : k < end) {n : ℕ} (number : n ≡ lineNumber k) where
     inside : now .count < length es
     inside = omega (arith, own .ends, now .line)
 
@@ -135,7 +135,7 @@ module _ {pass : Pass} {kind : Kind} {s out₀ out : List ℕ} {grouped : Bool} 
     says = said kind k (now .count) n (now .line) inside number
 
     next : drop (now .count) es ≡ e ∷ drop (now .count + 1) es
-    next = first es p (now .count) e (now .placed) inside refl
+    next = first (now .placed) inside
 
     pub turn-room : p + placesOf n ≤ places
     turn-room = omega (arith, line-room (now .placed) inside says, line-span (now .placed) inside says)

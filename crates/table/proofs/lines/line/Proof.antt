@@ -2,23 +2,23 @@
 -- Assumes nothing.
 use Prim.Native.Nat.{ℕ}
 use mathlib.Core.Path.{_≡_, sym, ap}
-use lib.ListN.{getD, List·getD-eq-default}
+use lib.ListN.{List·getD-eq-default}
 use Rattle.layout.specs.Shape.{span, spans}
 use Rattle.layout.specs.Table.{define, defineAck, cancel, cancelAck}
-use Rattle.table.specs.Lines.{lines, whenNumber, shapeNumber, numberOf, lineNumbers}
+use Rattle.table.specs.Lines.{lines, past, whenNumber, shapeNumber, numberOf, lineNumber}
 use Rattle.table.proofs.TableLaws.{none-of}
 use Rattle.table.proofs.lines.line.Statement.{statement}
 use Rattle.table.proofs.lines.line.Tie as tie
 
-at-line : {k i : ℕ} → k ≡ i → getD lineNumbers i 0 ≡ getD lineNumbers k 0
-at-line e = sym (ap (λ (j : ℕ). getD lineNumbers j 0) e)
+at-line : {k i : ℕ} → k ≡ i → lineNumber i ≡ lineNumber k
+at-line e = sym (ap lineNumber e)
 
 behind : tie.Need-returns-46
-unfolding lineNumbers lines numberOf whenNumber shapeNumber define defineAck cancel cancelAck span spans
-behind c = sym (List·getD-eq-default lineNumbers 0 (none-of 45 (c .before .args .k) (c .match .rest)))
+unfolding lineNumber lines numberOf whenNumber shapeNumber define defineAck cancel cancelAck span spans
+behind c = sym (ap numberOf (List·getD-eq-default lines past (none-of 45 (c .before .args .k) (c .match .rest))))
 
 pub line-spec : {M : Type 1} → statement M
-unfolding lineNumbers lines numberOf whenNumber shapeNumber define defineAck cancel cancelAck span spans
+unfolding lineNumber lines numberOf whenNumber shapeNumber define defineAck cancel cancelAck span spans
 line-spec =
     tie.close
     (tie.spec
