@@ -56,7 +56,8 @@ fn read_shape(
     place: usize,
     shape: Shape,
 ) -> Step
-    requires { ⌜ (bits ≤ 8 * length (now frame)) × (place + span shape ≤ length (now values)) × Clear (now values) place × T (sound shape place) ⌝ }
+    requires { ⌜ (bits ≤ 8 * length (now frame)) × (place + span shape ≤ length (now values)) × Clear (now values) place
+        × T (sound shape place) ⌝ }
     ensures { λ r. ⌜ Reads (rowsOf shape [] place) (whole (now (frame .entry)) bits) at place (now (values .entry)) (now (values .exit)) r ⌝ }
 {
     match shape {
@@ -83,7 +84,8 @@ fn read_element(
     place: usize,
     line: u64,
 ) -> Step
-    requires { ⌜ (bits ≤ 8 * length (now frame)) × (place + span (shapeOf line) ≤ length (now values)) × Clear (now values) place × T (sound (shapeOf line) place) ⌝ }
+    requires { ⌜ (bits ≤ 8 * length (now frame)) × (place + span (shapeOf line) ≤ length (now values)) × Clear (now values) place
+        × T (sound (shapeOf line) place) ⌝ }
     ensures { λ r. ⌜ Reads (rowsOf (shapeOf line) (hangOf line) place) (whole (now (frame .entry)) bits) at place
         (now (values .entry)) (now (values .exit)) r ⌝ }
 {

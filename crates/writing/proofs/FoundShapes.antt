@@ -32,7 +32,8 @@ use Rattle.writing.specs.declared.Pass.the-variants.{Judge, Lay}
 use Rattle.writing.specs.declared.Put.{Put}
 use Rattle.writing.specs.declared.Passed.{Passed}
 use Rattle.writing.specs.declared.Passed.the-variants as passed
-use Rattle.writing.specs.Lay.{Finds, Passes, Any, Writes, Looks, Puts, foundOf, barredOf}
+use Rattle.writing.specs.Lay.{Finds, Passes, Any, Writes}
+use Rattle.writing.specs.Found.{Looks, Puts, foundOf, barredOf}
 use Rattle.writing.proofs.LayLaws.{finds}
 use Rattle.writing.proofs.LayShapes.{puts-found, puts-barred, bar-bad, bar-group}
 use Rattle.writing.proofs.Parts.{field-writes}
@@ -61,7 +62,8 @@ module _ (pass : Pass) (s : List ℕ) (last at p : ℕ) (x : Shape) {out out′ 
         let carried : getD s p 0 ≡ held (number w []) (getD s p 0) = rw (lt-leb (2 ^ w) 1 (omega arith)) in
         let one = field-writes g inside (subst (λ (c : Row). getD s p 0 ≡ held c (getD s p 0)) (sym same) carried) Any in
         when-told (Number w) e
-        (puts-found (subst (λ (c : Row). Writes pass Any (c ∷ []) s at p out out′ t) same one) refl (inl refl) inside (Looks pass s last p (Number w)) _ r carried h)
+        (puts-found (subst (λ (c : Row). Writes pass Any (c ∷ []) s at p out out′ t) same one) refl (inl refl) inside
+        (Looks pass s last p (Number w)) _ r carried h)
 
     pub choice-found : (w n : ℕ) → x ≡ Choice w n → f ≡ choiceField w n → Passes pass f (getD s p 0) at out out′ t
         → r ≡ foundOf t (getD s p 0) → Told pass s last at p out out′ r x

@@ -38,7 +38,8 @@ use Rattle.writing.specs.declared.Put.the-variants as put
 use Rattle.writing.specs.declared.Passed.{Passed}
 use Rattle.writing.specs.declared.Passed.the-variants.{Empty, Held}
 use Rattle.writing.specs.declared.Passed.the-variants as passed
-use Rattle.writing.specs.Lay.{Does, Finds, Lies, Lays, Ready, Any, Writes, PassedWithin, Looks, LooksAlong, Found, Puts, foundOf, barredOf}
+use Rattle.writing.specs.Lay.{Does, Finds, Lies, Lays, Ready, Any, Writes}
+use Rattle.writing.specs.Found.{PassedWithin, Looks, LooksAlong, Found, Puts, foundOf, barredOf}
 use Rattle.writing.proofs.LayLaws.{finds, lay-under, over-none, kept, laying}
 
 -- ---- what the first row of an element leaves in the cleaned record
@@ -102,7 +103,8 @@ found-held {x} {at} {v} e d = go v d ∙ ap (λ (y : Put). foundOf y v) (sym e)
 
 module _ {pass : Pass} {c : Row} {more : List Row} {s : List ℕ} {at p : ℕ} {out out′ : List ℕ} {x : Put} (f : Writes pass Any (c ∷ more) s at p out out′ x)
     (plain : c .hang ≡ []) (one : (more ≡ []) ⊎ (0 < c .first)) (inside : p < places) where
-  pub puts-found : (known : List ℕ → Type 0) (value : ℕ) (r : Passed) → value ≡ held c (getD s p 0) → r ≡ foundOf x value → Puts pass known (c ∷ more) s at p out out′ r
+  pub puts-found : (known : List ℕ → Type 0) (value : ℕ) (r : Passed) → value ≡ held c (getD s p 0) → r ≡ foundOf x value
+      → Puts pass known (c ∷ more) s at p out out′ r
   puts-found known value r d e = subst (Puts pass known (c ∷ more) s at p out out′) (sym e) (go x value d f)
     where
       go : (x : Put) (value : ℕ) → value ≡ held c (getD s p 0) → Writes pass Any (c ∷ more) s at p out out′ x
@@ -167,7 +169,8 @@ module _ (n : Refusal) (c : Condition) (s : List ℕ) (at p : ℕ) (out : List �
     bar-off : present (take p vs) (c ∷ []) ≡ false → Found Judge (lay bar (take p vs) (drop p s)) 1 at p vs vs out out (Empty at)
     bar-off e = subst (λ (l : List Laid). Found Judge l 1 at p vs vs out out (Empty at)) (sym (bar-laid false e)) ((bar-lies Judge false, refl), z)
 
-    pub bar-bad : eqb (numberOf n) 5 ≡ false → present (take p vs) (c ∷ []) ≡ true → Found Judge (lay bar (take p vs) (drop p s)) 1 at p vs vs out out passed.Bad
+    pub bar-bad : eqb (numberOf n) 5 ≡ false → present (take p vs) (c ∷ []) ≡ true
+        → Found Judge (lay bar (take p vs) (drop p s)) 1 at p vs vs out out passed.Bad
     bar-bad h e = ap (all goodButGroup) (bar-laid true e) ∙ rw h
 
     pub bar-group : eqb (numberOf n) 5 ≡ true → present (take p vs) (c ∷ []) ≡ true
@@ -215,7 +218,8 @@ module _ (pass : Pass) (line : ℕ) (s : List ℕ) (last at p : ℕ) where
   hang = hangOf line
 
   pub element-puts : (x : Shape) {out out′ : List ℕ} {r : Passed} → x ≡ shapeOf line → present s hang ≡ true
-      → Puts pass (Looks pass s last p x) (rowsOf x [] p) s at p out out′ r → Puts pass (LooksAlong pass s last p line) (rowsOf (shapeOf line) hang p) s at p out out′ r
+      → Puts pass (Looks pass s last p x) (rowsOf x [] p) s at p out out′ r
+      → Puts pass (LooksAlong pass s last p line) (rowsOf (shapeOf line) hang p) s at p out out′ r
   element-puts x {out} {out′} {r} d on f = subst (λ (y : Shape). Puts pass (LooksAlong pass s last p line) (rowsOf y hang p) s at p out out′ r) d under
     where
       n : length (rowsOf x [] p) ≡ length (rowsOf x hang p)

@@ -34,7 +34,9 @@ use Rattle.writing.specs.declared.Passed.{Passed}
 use Rattle.writing.specs.declared.Passed.the-variants.{Empty, Held}
 use Rattle.writing.specs.declared.Passed.the-variants as passed
 use Rattle.writing.specs.declared.Walked.the-variants as walked
-use Rattle.writing.specs.Lay.{Does, Finds, Lies, Ready, Looks, LooksAlong, Found, PassedWithin, Puts, Outcome, Walks}
+use Rattle.writing.specs.Lay.{Does, Finds, Lies, Ready}
+use Rattle.writing.specs.Found.{Looks, LooksAlong, Found, PassedWithin, Puts}
+use Rattle.writing.specs.Whole.{Outcome, Walks}
 use Rattle.writing.proofs.LayLaws.{lay-append, vals-append, lies-none, lies-join, finds}
 use Rattle.writing.proofs.Since.{Since, since-none, since-empty, since-held}
 
@@ -121,7 +123,8 @@ module _ {pass : Pass} {kind : Kind} {s out₀ out : List ℕ} {grouped : Bool} 
       let rest = lay (unrolled (drop (now .count) es) p) (take p (now .vs)) (drop p s) in
       let here : take p (now .vs) ≡ vals (now .done) = ap (λ (n : ℕ). take n (now .vs)) (sym (zero-add p)) ∙ now .lies .front in
       let n : length (vals (now .done)) ≡ p = sym (ap length here) ∙ length-take-le p (now .vs) (omega (arith, now .size, now .placed .room)) in
-      here ∙ sym (ap (λ (l : List Laid). take p (vals l)) (now .whole) ∙ ap (take p) (vals-append (now .done) rest) ∙ take-at (vals (now .done)) (vals rest) p n)
+      here
+      ∙ sym (ap (λ (l : List Laid). take p (vals l)) (now .whole) ∙ ap (take p) (vals-append (now .done) rest) ∙ take-at (vals (now .done)) (vals rest) p n)
 
   -- ---- a turn: the line's number n
   module _ (less : k < end) {n : ℕ} (number : n ≡ lineNumber k) where

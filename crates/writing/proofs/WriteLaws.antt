@@ -28,8 +28,8 @@ use Rattle.layout.specs.Write.{good, goodButGroup, emit}
 use Rattle.layout.specs.Table.{ssType, actionType}
 use Rattle.layout.proofs.Tests.{told}
 use Rattle.layout.specs.Frame.{head, headBits, laid, valid, write, judgedOf, writtenOf, outputOf}
-use Rattle.writing.specs.Lay.{Over, Walks}
-use Rattle.writing.specs.Whole.{judgedBy, Count, Counts}
+use Rattle.writing.specs.Lay.{Over}
+use Rattle.writing.specs.Whole.{Walks, judgedBy, Count, Counts}
 use Rattle.writing.proofs.LayLaws.{over-put, over-join}
 use Rattle.writing.proofs.WholeRecord.{good-coded, not-good}
 

@@ -1,11 +1,10 @@
 -- Writing, part way: what the writer's parts promise of the rows that they pass, in either walk.
 -- The cleaned record stands in these promises alone: vs is what it holds so far. The code holds none.
 -- Assumes nothing.
-use Prim.Native.Nat.{ℕ, zero, suc, _+_, _*_, _≤_, _<_}
+use Prim.Native.Nat.{ℕ, _+_, _*_, _≤_, _<_}
 use mathlib.Core.Path.{_≡_}
 use mathlib.Core.Bool.{Bool, true, false}
 use mathlib.Core.List.{List, [], _∷_, _++_}
-use lib.Dec.{eqb, leb}
 use lib.ListN.{length, take, drop, getD, set}
 use Rattle.bits.specs.Bits.{bitsOf}
 use Rattle.writing.specs.declared.Pass.{Pass}
@@ -13,21 +12,11 @@ use Rattle.writing.specs.declared.Pass.the-variants.{Judge, Lay}
 use Rattle.writing.specs.declared.Put.{Put}
 use Rattle.writing.specs.declared.Put.the-variants.{Next}
 use Rattle.writing.specs.declared.Put.the-variants as put
-use Rattle.writing.specs.declared.Passed.{Passed}
-use Rattle.writing.specs.declared.Passed.the-variants.{Empty, Held}
-use Rattle.writing.specs.declared.Passed.the-variants as passed
-use Rattle.writing.specs.declared.Walked.{Walked}
-use Rattle.writing.specs.declared.Walked.the-variants as walked
-use Rattle.layout.specs.declared.Shape.{Shape}
-use Rattle.layout.specs.declared.Shape.the-variants.{Number, Choice, Identity, Ending, Missing, Nothing}
-use Rattle.layout.specs.declared.Shape.the-variants as shape
-use Rattle.layout.specs.Row.{Row, all, present}
-use Rattle.layout.specs.Shape.{No}
+use Rattle.layout.specs.Row.{Row, all}
 use Rattle.layout.specs.Frame.{places, headBits}
 use Rattle.layout.specs.Write.{Laid, held, lay, good, goodButGroup, vals, emit}
 use Rattle.table.specs.declared.Field.{Field}
 use Rattle.table.specs.Fields.{rowFor}
-use Rattle.table.specs.Lines.{hangOf, shapeOf}
 use Rattle.table.specs.Sound.{Clear}
 
 -- no more bits than this: the head, and 32 for each place
@@ -97,64 +86,3 @@ pub record Writes (pass : Pass) (known : List ℕ → Type 0) (rows : List Row) 
   pub size : length out′ ≡ length out
   pub within : Within r (at + 32 * length rows)
   pub lays : (vs : List ℕ) → length vs ≡ places → Clear vs p → known vs → (vs′ : List ℕ) × Lays pass rows s at p vs vs′ out out′ r
-
--- ---- elements
--- what a shape looks at, besides its own places: a group's place as the caller's record has it; whether anything came since an O-bit, as the judge has noted
-abbrev pub Looks : Pass → List ℕ → ℕ → ℕ → Shape → List ℕ → Type 0
-Looks pass s last p (Number w) vs = Unit {0}
-Looks pass s last p (Choice w n) vs = Unit {0}
-Looks pass s last p Identity vs = Unit {0}
-Looks pass s last p (shape.List items) vs = Unit {0}
-Looks pass s last p Ending vs = Unit {0}
-Looks pass s last p (Missing q) vs = eqb (getD vs q 0) No ≡ eqb (getD s q 0) No
-Looks pass s last p (Nothing o) vs = Finds pass (leb last (suc o) ≡ all (λ v. eqb v 0) (drop (suc o) (take p vs)))
-
--- what a line's element looks at: its conditions, as the caller's record has them, and what its shape does
-pub record LooksAlong (pass : Pass) (s : List ℕ) (last p line : ℕ) (vs : List ℕ) : Type 0 where
-  pub hang : present vs (hangOf line) ≡ present s (hangOf line)
-  pub looks : present s (hangOf line) ≡ true → Looks pass s last p (shapeOf line) vs
-
--- how the passing of an element ends. Where it is empty, the cleaned record holds nothing from its place on; where it holds something, it does so at its place.
--- The missing group's row has no bits
-abbrev pub Found : Pass → List Laid → ℕ → ℕ → ℕ → List ℕ → List ℕ → List ℕ → List ℕ → Passed → Type 0
-Found pass laid n at p vs vs′ out out′ (Empty at′) = Ends pass laid n at p vs vs′ out out′ (Next at′) × Finds pass (Clear vs′ p)
-Found pass laid n at p vs vs′ out out′ (Held at′) = Ends pass laid n at p vs vs′ out out′ (Next at′) × Finds pass (getD vs′ p 0 ≡ 0 → ⊥)
-Found pass laid n at p vs vs′ out out′ passed.Bad = Ends pass laid n at p vs vs′ out out′ put.Bad
-Found pass laid n at p vs vs′ out out′ passed.NoGroup =
-    Lies pass laid n at at p vs vs′ out out′ × (all good laid ≡ false) × (all goodButGroup laid ≡ true) × Clear vs′ p
-
-abbrev pub PassedWithin : Passed → ℕ → Type 0
-PassedWithin (Empty at) most = at ≤ most
-PassedWithin (Held at) most = at ≤ most
-PassedWithin passed.Bad most = Unit {0}
-PassedWithin passed.NoGroup most = Unit {0}
-
-pub record Puts (pass : Pass) (known : List ℕ → Type 0) (rows : List Row) (s : List ℕ) (at p : ℕ) (out out′ : List ℕ) (r : Passed) : Type 0 where
-  pub size : length out′ ≡ length out
-  pub within : PassedWithin r (at + 32 * length rows)
-  pub finds : (vs : List ℕ) → length vs ≡ places → Clear vs p → known vs
-      → (vs′ : List ℕ) × (length vs′ ≡ length vs) × Found pass (lay rows (take p vs) (drop p s)) (length rows) at p vs vs′ out out′ r
-
--- by the value at its first place
-abbrev pub foundOf : Put → ℕ → Passed
-foundOf (Next at) zero = Empty at
-foundOf (Next at) (suc v) = Held at
-foundOf put.Bad v = passed.Bad
-
--- a refusal, if there is a reason and the walk judges
-abbrev pub barredOf : Pass → Bool → Passed → ℕ → Passed
-barredOf Judge true refusal at = refusal
-barredOf Judge false refusal at = Empty at
-barredOf Lay reason refusal at = Empty at
-
--- ---- a whole record
--- what a walk over it finds, and leaves in the bytes after the head
-abbrev pub Outcome : Pass → List Laid → List ℕ → List ℕ → Walked → Type 0
-Outcome Judge laid out out′ (walked.Bits n) = (all good laid ≡ true) × (n ≡ headBits + length (emit laid)) × (n ≤ mostBits)
-Outcome Judge laid out out′ walked.Reserved = all goodButGroup laid ≡ false
-Outcome Judge laid out out′ walked.NoGroup = (all good laid ≡ false) × (all goodButGroup laid ≡ true)
-Outcome Lay laid out out′ r = all good laid ≡ true → Over out out′ headBits (emit laid)
-
-pub record Walks (pass : Pass) (laid : List Laid) (out out′ : List ℕ) (r : Walked) : Type 0 where
-  pub size : length out′ ≡ length out
-  pub outcome : Outcome pass laid out out′ r

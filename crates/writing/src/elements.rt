@@ -29,7 +29,9 @@ ghost use Rattle.layout.specs.Frame.{laid};
 ghost use Rattle.layout.specs.Shape.{rowsOf, span};
 ghost use Rattle.table.specs.Lines.{hangOf, shapeOf};
 ghost use Rattle.table.specs.Sound.{sound};
-ghost use Rattle.writing.specs.Lay.{Ready, Puts, Looks, LooksAlong, foundOf, barredOf, Walks};
+ghost use Rattle.writing.specs.Lay.{Ready};
+ghost use Rattle.writing.specs.Found.{Puts, Looks, LooksAlong, foundOf, barredOf};
+ghost use Rattle.writing.specs.Whole.{Walks};
 
 // What was passed, by the value at its first place.
 fn found(put: Put, value: u32) -> Passed
@@ -94,8 +96,8 @@ fn walk_element(
     last: usize,
 ) -> Passed
     requires { ⌜ Ready at place (span (shapeOf line)) × T (sound (shapeOf line) place) ⌝ }
-    ensures { λ r. ⌜ Puts pass (LooksAlong pass (now (values .entry)) last place line) (rowsOf (shapeOf line) (hangOf line) place) (now (values .entry)) at place
-        (now (out .entry)) (now (out .exit)) r ⌝ }
+    ensures { λ r. ⌜ Puts pass (LooksAlong pass (now (values .entry)) last place line) (rowsOf (shapeOf line) (hangOf line) place)
+        (now (values .entry)) at place (now (out .entry)) (now (out .exit)) r ⌝ }
 {
     if there(values, line) {
         walk_shape(pass, values, out, at, place, shape_of(line), last)

@@ -24,11 +24,12 @@ same-length c = search needs
 
 returns : tie.Need-returns
 returns c =
-    let a = c .before .before .before .before .before .before .before .before .before .before .before .before .before .before .args in
-    let one = c .before .before .before .before .before .before .before .before .before .before .before .put-field in
-    let two = c .before .before .before .before .before .before .put-field2 in
-    framed (a .kind) (a .values .now) (a .out .now) (one .last .0) (two .last .0) _ (one .ensures)
-    (two .ensures ∙ ap (λ v. putAt (one .last .0) 6 4 v) (c .before .before .before .before .before .before .before .action-type .ensures)) _ (c .before .before .before .before .before .before .before .before .before .before .before .before .before .before .pre) (c .before .before .walk-elements .ensures)
+    let s = c .before .before .before .before .before .before .before .before .before .before .before .before .before .before in
+    let two = c .before .before .before .before .before .before in
+    let one = two .before .before .before .before .before in
+    framed (s .args .kind) (s .args .values .now) (s .args .out .now) (one .put-field .last .0) (two .put-field2 .last .0) _ (one .put-field .ensures)
+    (two .put-field2 .ensures ∙ ap (λ v. putAt (one .put-field .last .0) 6 4 v) (two .before .action-type .ensures)) _ (s .pre)
+    (c .before .before .walk-elements .ensures)
 
 pub lay-frame-spec : {M : Type 1} → statement M
 lay-frame-spec =

@@ -17,9 +17,10 @@ same-length c = search needs
 
 returns : tie.Need-returns
 returns c =
-    let a = c .before .before .before .before .before .before .before .before .before .args in
-    laid-bytes (write (a .kind) (a .values .now)) (a .out .now) (c .before .before .before .before .before .before .lay-frame .last .1 .1 .0) _ (a .bits) (c .before .before .before .before .before .before .lay-frame .ensures)
-    (c .before .before .before .before .before .before .before .before .before .pre .1) (c .before .before .before .before .before .before .before .before .before .pre .2) (c .before .before .lay-spare .ensures) (λ i. c .before .before .before .before .before .before .before .before .slice-known .given i .fits)
+    let s = c .before .before .before .before .before .before .before .before .before in
+    let f = c .before .before .before .before .before .before in
+    laid-bytes (write (s .args .kind) (s .args .values .now)) (s .args .out .now) (f .lay-frame .last .1 .1 .0) _ (s .args .bits) (f .lay-frame .ensures)
+    (s .pre .1) (s .pre .2) (c .before .before .lay-spare .ensures) (λ i. f .before .before .slice-known .given i .fits)
 
 pub lay-whole-spec : {M : Type 1} → statement M
 lay-whole-spec = tie.close (tie.spec lay-frame-requires lay-spare-requires same-length returns)

@@ -11,8 +11,9 @@ use Rattle.writing.proofs.write_part.Tie as tie
 
 returns : tie.Need-returns
 returns c =
-    let a = c .before .before .args in
-    past-end (a .kind) (a .values .now) (a .out .now) (a .start) (a .bits) (valid-judged (a .kind) (a .values .now) (c .before .before .pre .0)) (c .before .before .pre .1) (c .if1 .taken)
+    let s = c .before .before in
+    past-end (s .args .kind) (s .args .values .now) (s .args .out .now) (s .args .start) (s .args .bits)
+    (valid-judged (s .args .kind) (s .args .values .now) (s .pre .0)) (s .pre .1) (c .if1 .taken)
 
 sub-if2 : tie.Need-sub-if2
 sub-if2 c = search needs
@@ -22,9 +23,9 @@ add-if2 c = search needs
 
 returns-2 : tie.Need-returns-2
 returns-2 c =
-    let a = c .before .before .before .args in
-    too-few (a .kind) (a .values .now) (a .out .now) (a .start) (a .bits) (valid-judged (a .kind) (a .values .now) (c .before .before .before .pre .0)) (c .before .before .before .pre .1)
-    (c .before .if1 .left) (c .if2 .taken)
+    let s = c .before .before .before in
+    too-few (s .args .kind) (s .args .values .now) (s .args .out .now) (s .args .start) (s .args .bits)
+    (valid-judged (s .args .kind) (s .args .values .now) (s .pre .0)) (s .pre .1) (c .before .if1 .left) (c .if2 .taken)
 
 sub-lay-whole : tie.Need-sub-lay-whole
 sub-lay-whole c = search needs
@@ -43,9 +44,11 @@ same-length c = search needs
 
 returns-3 : tie.Need-returns-3
 returns-3 c =
-    let a = c .before .before .before .before .before .before .before .args in
-    written-part (a .kind) (a .values .now) (a .out .now) (a .start) (a .bits) (valid-judged (a .kind) (a .values .now) (c .before .before .before .before .before .before .before .pre .0)) (c .before .before .before .before .before .before .before .pre .1)
-    (c .before .before .before .before .before .if1 .left) (c .before .before .before .before .if2 .left) (length (a .out .now) - a .start) _ (omega arith) (c .before .before .lay-whole .ensures)
+    let s = c .before .before .before .before .before .before .before in
+    let l = c .before .before in
+    written-part (s .args .kind) (s .args .values .now) (s .args .out .now) (s .args .start) (s .args .bits)
+    (valid-judged (s .args .kind) (s .args .values .now) (s .pre .0)) (s .pre .1) (l .before .before .before .if1 .left) (l .before .before .if2 .left)
+    (length (s .args .out .now) - s .args .start) _ (omega arith) (l .lay-whole .ensures)
 
 pub write-part-spec : {M : Type 1} → statement M
 write-part-spec =

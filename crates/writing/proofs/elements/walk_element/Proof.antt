@@ -22,9 +22,10 @@ same-length c = search needs
 
 returns : tie.Need-returns
 returns c =
-    let a = c .before .before .before .before .before .before .before .before .before .args in
-    element-puts (a .pass) (a .line) (a .values .now) (a .last) (a .at) (a .place) _ (c .before .before .before .shape-of .ensures)
-    (sym (c .before .before .before .before .before .before .there .ensures) ∙ c .before .before .before .before .before .if1 .taken) (c .before .before .walk-shape .ensures)
+    let s = c .before .before .before .before .before .before .before .before .before in
+    let f = c .before .before in
+    element-puts (s .args .pass) (s .args .line) (s .args .values .now) (s .args .last) (s .args .at) (s .args .place) _ (f .before .shape-of .ensures)
+    (sym (f .before .before .before .before .there .ensures) ∙ f .before .before .before .if1 .taken) (f .walk-shape .ensures)
 
 returns-2 : tie.Need-returns-2
 returns-2 c =

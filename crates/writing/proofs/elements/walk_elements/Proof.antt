@@ -4,13 +4,15 @@ use Prim.Native.Nat.{_-_}
 use native.Mathlib.Omega.{arith}
 use Rattle.layout.specs.declared.Kind.{Kind}
 use Rattle.table.proofs.TableLaws.{Own}
-use Rattle.writing.proofs.WholeRecord.{Wrote, wrote-none, turn-room, turn-ready, turn-empty, turn-held, turn-missing, turn-bad, wrote-bits, wrote-group}
+use Rattle.writing.proofs.WholeRecord.{Wrote, wrote-none, wrote-bits, wrote-group}
+use Rattle.writing.proofs.WholeRecord.{turn-room, turn-ready, turn-empty, turn-held, turn-missing, turn-bad}
 use borrow.Author.Needs.{needs}
 use Rattle.writing.proofs.elements.walk_elements.Statement.{statement}
 use Rattle.writing.proofs.elements.walk_elements.Tie as tie
 
 abbrev Inv-loop : tie.InvT-loop
-Inv-loop pass values out₀ end grouped₀ at₀ place₀ last₀ k₀ out grouped at place last k = (kind : Kind) → Own kind k₀ end → Wrote pass kind values out₀ out grouped last at place k
+Inv-loop pass values out₀ end grouped₀ at₀ place₀ last₀ k₀ out grouped at place last k =
+    (kind : Kind) → Own kind k₀ end → Wrote pass kind values out₀ out grouped last at place k
 
 abbrev μ-loop : tie.MeasureT-loop
 μ-loop pass values out₀ end grouped₀ at₀ place₀ last₀ k₀ out grouped at place last k = end - k
@@ -42,13 +44,19 @@ places-of-requires : tie.Need-places-of-requires Inv-loop μ-loop
 places-of-requires c κs = search needs
 
 add-place : tie.Need-add-place Inv-loop μ-loop
-add-place c = omega (arith, c .places-of .ensures, turn-room (own (c .before .before .before .before)) (wrote (c .before .before .before)) (c .before .before .loop-test .taken) (c .before .line .ensures))
+add-place c =
+    let l = c .before .before .before in
+    let t = c .before in
+    omega (arith, c .places-of .ensures, turn-room (own (l .before)) (wrote l) (t .before .loop-test .taken) (t .line .ensures))
 
 add-k : tie.Need-add-k Inv-loop μ-loop
 add-k c = omega (arith, c .before .before .loop-test .taken)
 
 walk-element-requires : tie.Need-walk-element-requires Inv-loop μ-loop
-walk-element-requires c κs = turn-ready (own (c .before .before .before .before .before)) (wrote (c .before .before .before .before)) (c .before .before .before .loop-test .taken) (c .before .before .line .ensures)
+walk-element-requires c κs =
+    let l = c .before .before .before .before in
+    let t = c .before .before in
+    turn-ready (own (l .before)) (wrote l) (t .before .loop-test .taken) (t .line .ensures)
 
 enum-known-next : tie.Need-enum-known-next Inv-loop μ-loop
 enum-known-next c = search needs
@@ -58,22 +66,33 @@ loop-less c = omega (arith, c .before .before .before .before .before .before .b
 
 loop-again : tie.Need-loop-again Inv-loop μ-loop
 loop-again c =
-    λ kind own. turn-empty own (c .before .before .before .before .before .before .before .before .before .before .loop .inv kind own) (c .before .before .before .before .before .before .before .before .before .loop-test .taken) (c .before .before .before .before .before .before .before .before .line .ensures) (c .before .before .before .before .before .walk-element .ensures)
-    (c .before .before .before .before .before .before .before .places-of .ensures) (c .before .next .given .1)
+    let f = c .before .before .before .before .before in
+    let p = f .before .before in
+    let t = p .before in
+    λ kind own.
+    turn-empty own (t .before .before .loop .inv kind own) (t .before .loop-test .taken) (t .line .ensures) (f .walk-element .ensures)
+    (p .places-of .ensures) (c .before .next .given .1)
 
 enum-known-next-2 : tie.Need-enum-known-next-2 Inv-loop μ-loop
 enum-known-next-2 c = search needs
 
 add-last : tie.Need-add-last Inv-loop μ-loop
-add-last c = omega (arith, turn-room (own (c .before .before .before .before .before .before .before .before .before .before .before)) (wrote (c .before .before .before .before .before .before .before .before .before .before)) (c .before .before .before .before .before .before .before .before .before .loop-test .taken) (c .before .before .before .before .before .before .before .before .line .ensures))
+add-last c =
+    let t = c .before .before .before .before .before .before .before .before in
+    let l = t .before .before in
+    omega (arith, turn-room (own (l .before)) (wrote l) (t .before .loop-test .taken) (t .line .ensures))
 
 loop-less-2 : tie.Need-loop-less-2 Inv-loop μ-loop
 loop-less-2 c = omega (arith, c .before .before .before .before .before .before .before .before .before .loop-test .taken)
 
 loop-again-2 : tie.Need-loop-again-2 Inv-loop μ-loop
 loop-again-2 c =
-    λ kind own. turn-held own (c .before .before .before .before .before .before .before .before .before .before .loop .inv kind own) (c .before .before .before .before .before .before .before .before .before .loop-test .taken) (c .before .before .before .before .before .before .before .before .line .ensures) (c .before .before .before .before .before .walk-element .ensures)
-    (c .before .before .before .before .before .before .before .places-of .ensures) (c .before .next2 .given .1)
+    let f = c .before .before .before .before .before in
+    let p = f .before .before in
+    let t = p .before in
+    λ kind own.
+    turn-held own (t .before .before .loop .inv kind own) (t .before .loop-test .taken) (t .line .ensures) (f .walk-element .ensures)
+    (p .places-of .ensures) (c .before .next2 .given .1)
 
 enum-told : tie.Need-enum-told Inv-loop μ-loop
 enum-told c = search needs
@@ -83,28 +102,40 @@ loop-less-3 c = omega (arith, c .before .before .before .before .before .before 
 
 loop-again-3 : tie.Need-loop-again-3 Inv-loop μ-loop
 loop-again-3 c =
-    λ kind own. turn-missing own (c .before .before .before .before .before .before .before .before .before .loop .inv kind own) (c .before .before .before .before .before .before .before .before .loop-test .taken) (c .before .before .before .before .before .before .before .line .ensures) (c .before .before .before .before .walk-element .ensures)
-    (c .before .before .before .before .before .before .places-of .ensures) (c .enum-told .given .1)
+    let f = c .before .before .before .before in
+    let p = f .before .before in
+    let t = p .before in
+    λ kind own.
+    turn-missing own (t .before .before .loop .inv kind own) (t .before .loop-test .taken) (t .line .ensures) (f .walk-element .ensures)
+    (p .places-of .ensures) (c .enum-told .given .1)
 
 enum-told-2 : tie.Need-enum-told-2 Inv-loop μ-loop
 enum-told-2 c = search needs
 
 returns : tie.Need-returns Inv-loop μ-loop
 returns c =
-    turn-bad (own (c .before .before .before .before .before .before .before .before .before .before)) (wrote (c .before .before .before .before .before .before .before .before .before)) (c .before .before .before .before .before .before .before .before .loop-test .taken) (c .before .before .before .before .before .before .before .line .ensures) (c .before .before .before .before .walk-element .ensures)
-    (c .before .before .before .before .before .before .places-of .ensures) (c .enum-told2 .given .1)
+    let f = c .before .before .before .before in
+    let p = f .before .before in
+    let t = p .before in
+    let l = t .before .before in
+    turn-bad (own (l .before)) (wrote l) (t .before .loop-test .taken) (t .line .ensures) (f .walk-element .ensures)
+    (p .places-of .ensures) (c .enum-told2 .given .1)
 
 same-length : tie.Need-same-length Inv-loop μ-loop
 same-length c = returns c .size
 
 returns-2 : tie.Need-returns-2 Inv-loop μ-loop
-returns-2 c = wrote-bits (own (c .before .before .before)) (wrote (c .before .before)) (c .before .loop-test .left) (c .if1 .taken)
+returns-2 c =
+    let l = c .before .before in
+    wrote-bits (own (l .before)) (wrote l) (c .before .loop-test .left) (c .if1 .taken)
 
 same-length-2 : tie.Need-same-length-2 Inv-loop μ-loop
 same-length-2 c = returns-2 c .size
 
 returns-3 : tie.Need-returns-3 Inv-loop μ-loop
-returns-3 c = wrote-group (own (c .before .before .before)) (wrote (c .before .before)) (c .before .loop-test .left) (c .if1 .left)
+returns-3 c =
+    let l = c .before .before in
+    wrote-group (own (l .before)) (wrote l) (c .before .loop-test .left) (c .if1 .left)
 
 same-length-3 : tie.Need-same-length-3 Inv-loop μ-loop
 same-length-3 c = returns-3 c .size

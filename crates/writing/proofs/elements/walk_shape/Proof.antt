@@ -27,9 +27,9 @@ number-requires c κs = search needs
 
 walk-field-requires : tie.Need-walk-field-requires
 walk-field-requires c κs =
-    let a = c .before .before .before .before .before .before .before .args in
-    let fit = sound-number (a .shape) (a .place) _ (c .before .before .before .shape .given .1) (c .before .before .before .before .before .before .before .pre .1) in
-    (subst Narrow (sym (c .number .ensures)) (number-narrow _ (fit .0) (fit .1)), ready-most (c .before .before .before .before .before .before .before .pre .0))
+    let s = c .before .before .before .before .before .before .before in
+    let fit = sound-number (s .args .shape) (s .args .place) _ (c .before .before .before .shape .given .1) (s .pre .1) in
+    (subst Narrow (sym (c .number .ensures)) (number-narrow _ (fit .0) (fit .1)), ready-most (s .pre .0))
 
 found-requires : tie.Need-found-requires
 found-requires c κs = search needs
@@ -42,9 +42,9 @@ choice-requires c κs = search needs
 
 walk-field-requires-2 : tie.Need-walk-field-requires-2
 walk-field-requires-2 c κs =
-    let a = c .before .before .before .before .before .before .before .args in
-    let fit = sound-choice (a .shape) (a .place) _ _ (c .before .before .before .shape2 .given .1) (c .before .before .before .before .before .before .before .pre .1) in
-    (subst Narrow (sym (c .choice .ensures)) (choice-narrow _ (fit .0) (fit .1) _ (omega arith)), ready-most (c .before .before .before .before .before .before .before .pre .0))
+    let s = c .before .before .before .before .before .before .before in
+    let fit = sound-choice (s .args .shape) (s .args .place) _ _ (c .before .before .before .shape2 .given .1) (s .pre .1) in
+    (subst Narrow (sym (c .choice .ensures)) (choice-narrow _ (fit .0) (fit .1) _ (omega arith)), ready-most (s .pre .0))
 
 found-requires-2 : tie.Need-found-requires-2
 found-requires-2 c κs = search needs
@@ -63,7 +63,9 @@ enum-known-shape-3 : tie.Need-enum-known-shape-3
 enum-known-shape-3 c = search needs
 
 walk-list-requires : tie.Need-walk-list-requires
-walk-list-requires c κs = ready-few _ (c .before .before .before .before .before .before .pre .0) (omega (arith, list-room (c .before .before .before .before .before .before .args .shape) _ (c .before .before .shape3 .given .1)))
+walk-list-requires c κs =
+    let s = c .before .before .before .before .before .before in
+    ready-few _ (s .pre .0) (omega (arith, list-room (s .args .shape) _ (c .before .before .shape3 .given .1)))
 
 found-requires-4 : tie.Need-found-requires-4
 found-requires-4 c κs = search needs
@@ -103,26 +105,31 @@ same-length c = search needs
 
 returns : tie.Need-returns
 returns c =
-    let a = c .before .before .before .before .before .before .before .before .before .before .before .args in
-    number-found (a .pass) (a .values .now) (a .last) (a .at) (a .place) (a .shape) (first-inside (a .shape) (c .before .before .before .before .before .before .before .before .before .before .before .pre .0)) _
-    (c .before .before .before .before .before .before .before .shape .given .1) (c .before .before .before .before .before .before .before .before .before .before .before .pre .1) (c .before .before .before .before .number .ensures) (c .before .before .before .walk-field .ensures) (c .found .ensures)
+    let s = c .before .before .before .before .before .before .before .before .before .before .before in
+    let a = s .args in
+    let n = c .before .before .before .before in
+    number-found (a .pass) (a .values .now) (a .last) (a .at) (a .place) (a .shape) (first-inside (a .shape) (s .pre .0)) _
+    (n .before .before .before .shape .given .1) (s .pre .1) (n .number .ensures) (c .before .before .before .walk-field .ensures) (c .found .ensures)
 
 same-length-2 : tie.Need-same-length-2
 same-length-2 c = search needs
 
 returns-2 : tie.Need-returns-2
 returns-2 c =
-    let a = c .before .before .before .before .before .before .before .before .before .before .before .args in
-    choice-found (a .pass) (a .values .now) (a .last) (a .at) (a .place) (a .shape) (first-inside (a .shape) (c .before .before .before .before .before .before .before .before .before .before .before .pre .0)) _ _
-    (c .before .before .before .before .before .before .before .shape2 .given .1) (c .before .before .before .before .choice .ensures) (c .before .before .before .walk-field2 .ensures) (c .found2 .ensures)
+    let s = c .before .before .before .before .before .before .before .before .before .before .before in
+    let a = s .args in
+    let n = c .before .before .before .before in
+    choice-found (a .pass) (a .values .now) (a .last) (a .at) (a .place) (a .shape) (first-inside (a .shape) (s .pre .0)) _ _
+    (n .before .before .before .shape2 .given .1) (n .choice .ensures) (c .before .before .before .walk-field2 .ensures) (c .found2 .ensures)
 
 same-length-3 : tie.Need-same-length-3
 same-length-3 c = search needs
 
 returns-3 : tie.Need-returns-3
 returns-3 c =
-    let a = c .before .before .before .before .before .before .before .before .before .args in
-    identity-found (a .pass) (a .values .now) (a .last) (a .at) (a .place) (a .shape) (first-inside (a .shape) (c .before .before .before .before .before .before .before .before .before .pre .0))
+    let s = c .before .before .before .before .before .before .before .before .before in
+    let a = s .args in
+    identity-found (a .pass) (a .values .now) (a .last) (a .at) (a .place) (a .shape) (first-inside (a .shape) (s .pre .0))
     (c .before .before .before .before .before .enum-told .given .1) (c .before .before .before .walk-identity .ensures) (c .found3 .ensures)
 
 same-length-4 : tie.Need-same-length-4
@@ -130,8 +137,9 @@ same-length-4 c = search needs
 
 returns-4 : tie.Need-returns-4
 returns-4 c =
-    let a = c .before .before .before .before .before .before .before .before .before .before .args in
-    list-found (a .pass) (a .values .now) (a .last) (a .at) (a .place) (a .shape) (first-inside (a .shape) (c .before .before .before .before .before .before .before .before .before .before .pre .0)) _
+    let s = c .before .before .before .before .before .before .before .before .before .before in
+    let a = s .args in
+    list-found (a .pass) (a .values .now) (a .last) (a .at) (a .place) (a .shape) (first-inside (a .shape) (s .pre .0)) _
     (c .before .before .before .before .before .before .shape3 .given .1) (c .before .before .before .walk-list .ensures) (c .found4 .ensures)
 
 same-length-5 : tie.Need-same-length-5
@@ -139,21 +147,24 @@ same-length-5 c = search needs
 
 returns-5 : tie.Need-returns-5
 returns-5 c =
-    let a = c .before .before .before .before .before .before .before .before .before .args in
-    ending-found (a .pass) (a .values .now) (a .last) (a .at) (a .place) (a .shape) (first-inside (a .shape) (c .before .before .before .before .before .before .before .before .before .pre .0))
+    let s = c .before .before .before .before .before .before .before .before .before in
+    let a = s .args in
+    ending-found (a .pass) (a .values .now) (a .last) (a .at) (a .place) (a .shape) (first-inside (a .shape) (s .pre .0))
     (c .before .before .before .before .before .enum-told2 .given .1) (c .before .before .before .walk-field3 .ensures) (c .found5 .ensures)
 
 returns-6 : tie.Need-returns-6
 returns-6 c =
-    let a = c .before .before .before .before .before .before .before .before .args in
-    missing-found (a .pass) (a .values .now) (a .last) (a .at) (a .place) (a .shape) (first-inside (a .shape) (c .before .before .before .before .before .before .before .before .pre .0)) _ _
-    (c .before .before .before .before .shape4 .given .1) (c .before .before .before .before .before .before .before .before .pre .1) (c .before .holds .ensures) (c .barred .ensures)
+    let s = c .before .before .before .before .before .before .before .before in
+    let a = s .args in
+    missing-found (a .pass) (a .values .now) (a .last) (a .at) (a .place) (a .shape)
+    (first-inside (a .shape) (s .pre .0)) _ _ (c .before .before .before .before .shape4 .given .1) (s .pre .1) (c .before .holds .ensures) (c .barred .ensures)
 
 returns-7 : tie.Need-returns-7
 returns-7 c =
-    let a = c .before .before .before .before .before .before .args in
-    nothing-found (a .pass) (a .values .now) (a .last) (a .at) (a .place) (a .shape) (first-inside (a .shape) (c .before .before .before .before .before .before .pre .0)) _ _
-    (c .before .before .shape5 .given .1) refl (c .barred2 .ensures)
+    let s = c .before .before .before .before .before .before in
+    let a = s .args in
+    nothing-found (a .pass) (a .values .now) (a .last) (a .at) (a .place) (a .shape)
+    (first-inside (a .shape) (s .pre .0)) _ _ (c .before .before .shape5 .given .1) refl (c .barred2 .ensures)
 
 pub walk-shape-spec : {M : Type 1} → statement M
 walk-shape-spec =
