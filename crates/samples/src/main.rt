@@ -1,4 +1,5 @@
-// Document 01's samples that are run: the shortest DEFINE and the longest are written into a longer buffer, from a byte on, and read again there; and a record without a code.
+// Document 01's samples that are run: the shortest DEFINE and the longest are written into a longer buffer, from a byte on, and read again there;
+// the shortest with its unused places full, which are not looked at; and a record without a code.
 use frame::Kind;
 use frame::PLACES;
 use frame::Reading;
@@ -18,10 +19,16 @@ const FILLER: u8 = 0xFF;
 const START: usize = 5;
 
 fn main() {
-    run(b"shortest DEFINE: ", shortest());
-    run(b"longest DEFINE: ", longest());
+    run(b"shortest DEFINE: ", shortest(), shortest());
+    run(b"longest DEFINE: ", longest(), longest());
+    run(
+        b"shortest DEFINE, unused places full: ",
+        crowded(),
+        shortest(),
+    );
     run(
         b"acknowledgement with another value than requested: ",
+        unrequested(),
         unrequested(),
     );
 }
@@ -39,6 +46,18 @@ fn shortest() -> Record {
     values.place[CALL_RELATED] = YES;
     values.place[CALL_IDENTIFIER] = 5;
     values.place[GIVEN] = NO;
+    values
+}
+
+// The shortest, with a number too large for any element in each place that it does not use.
+fn crowded() -> Record {
+    let mut values = Record {
+        place: [u32::MAX; PLACES],
+    };
+    values.place[CALL_RELATED] = YES;
+    values.place[CALL_IDENTIFIER] = 5;
+    values.place[GIVEN] = NO;
+    values.place[O_BIT] = 0;
     values
 }
 
@@ -108,8 +127,8 @@ fn identity(values: Record, place: usize) -> Record
     r
 }
 
-// Writes a record and reads it again, and prints what was seen.
-fn run(name: &[u8], values: Record) {
+// Writes a record and reads it again, and prints what was seen, beside the record that is wanted again.
+fn run(name: &[u8], values: Record, wanted: Record) {
     let mut out = [FILLER; 256];
     io::write_all(1, name);
     match frame::write(Kind::Define, &values.place, &mut out, START) {
@@ -118,7 +137,7 @@ fn run(name: &[u8], values: Record) {
             io::write_all(1, b" bits in ");
             io::print_decimal(1, used(&out[START..]) as u64);
             io::write_all(1, b" bytes");
-            if alike(values, frame::read(Kind::Define, &out[START..], n)) {
+            if alike(wanted, frame::read(Kind::Define, &out[START..], n)) {
                 io::write_all(1, b", read again alike\n");
             } else {
                 io::write_all(1, b", read otherwise\n");
