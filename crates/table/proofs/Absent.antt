@@ -26,7 +26,7 @@ use Rattle.layout.proofs.Tests.{and-false}
 
 -- ---- places that hold 0
 -- a place that holds 0 holds it in the record so far
-pub zero-before : (vs : List ℕ) (n q : ℕ) → getD vs q 0 ≡ 0 → getD (take n vs) q 0 ≡ 0
+zero-before : (vs : List ℕ) (n q : ℕ) → getD vs q 0 ≡ 0 → getD (take n vs) q 0 ≡ 0
 zero-before vs n q z = go (decLt q n)
   where
     go : Dec (q < n) → getD (take n vs) q 0 ≡ 0
@@ -34,7 +34,7 @@ zero-before vs n q z = go (decLt q n)
     go (no l) = List·getD-eq-default (take n vs) 0 (omega (arith, length-take n vs, min-le-left n (length vs)))
 
 -- what a place holds so far, where all from n on hold 0, it holds
-pub getD-clear : (vs : List ℕ) (n q : ℕ) → Clear vs n → getD (take n vs) q 0 ≡ getD vs q 0
+getD-clear : (vs : List ℕ) (n q : ℕ) → Clear vs n → getD (take n vs) q 0 ≡ getD vs q 0
 getD-clear vs n q z = go (decLt q n)
   where
     go : Dec (q < n) → getD (take n vs) q 0 ≡ getD vs q 0

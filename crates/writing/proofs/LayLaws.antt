@@ -103,7 +103,7 @@ module _ (out out₁ out₂ : List ℕ) (at : ℕ) (a b : List Bool) (f : Over o
       }
 
 -- ---- what a walk does
-pub does-none : (pass : Pass) (out : List ℕ) (at : ℕ) → Does pass [] at out out
+does-none : (pass : Pass) (out : List ℕ) (at : ℕ) → Does pass [] at out out
 unfolding emit
 does-none Judge out at = tt
 does-none Lay out at = λ _. over-none out at

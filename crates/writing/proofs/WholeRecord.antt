@@ -64,7 +64,6 @@ Fine Lay done grouped = grouped ≡ false → all good done ≡ false
 pub record Wrote (pass : Pass) (kind : Kind) (s out₀ out : List ℕ) (grouped : Bool) (last at p k : ℕ) : Type 0 where
   pub count : ℕ
   pub line : k ≡ firstLine kind + count
-  pub few : count ≤ length (tableOf kind)
   pub vs : List ℕ
   pub size : length vs ≡ places
   pub clear : Clear vs p
@@ -86,7 +85,6 @@ wrote-none pass kind s out k e =
     record {
       count = 0;
       line = omega (arith, e);
-      few = omega arith;
       vs = replicate places 0;
       size = length-replicate {A = ℕ} places 0;
       clear = λ q h. zeros places q;
@@ -221,7 +219,6 @@ module _ {pass : Pass} {kind : Kind} {s out₀ out : List ℕ} {grouped : Bool} 
           (record {
             count = now .count + 1;
             line = omega (arith, now .line);
-            few = omega (arith, inside);
             vs = vs′;
             size = after .1 ∙ now .size;
             clear = λ q l. clear-later (length own-rows) p (now .vs) vs′ (g .stays) (now .clear) q (omega (arith, n-rows));
