@@ -19,7 +19,7 @@ use Rattle.table.proofs.Absent.{length-item}
 use Rattle.table.proofs.IdentityLaws.{extension-on, extension-off, form-sna, form-none, form-ssi, form-stop}
 use Rattle.table.proofs.ListLaws.{item-on, item-off}
 use Rattle.writing.specs.Lay.{Within, Passes, Any, Known, Writes}
-use Rattle.writing.proofs.LayLaws.{kept, laying}
+use Rattle.writing.proofs.LayLaws.{kept, laying, keeps-on, finds}
 use Rattle.writing.proofs.Parts.{within-on, clear-set}
 
 -- ---- after the form at the place p
@@ -31,6 +31,7 @@ module _ {pass : Pass} {s : List ℕ} {at : ℕ} (p : ℕ) (room : p + 4 ≤ pla
     extension-there e f =
         record {
           size = f .size;
+          keeps = f .keeps;
           within = f .within;
           lays = λ vs size z k.
               let w = set vs (p + 3) (getD s (p + 3) 0) in
@@ -42,6 +43,7 @@ module _ {pass : Pass} {s : List ℕ} {at : ℕ} (p : ℕ) (room : p + 4 ≤ pla
     sna-there e f =
         record {
           size = f .size;
+          keeps = f .keeps;
           within = within-on r at (at + 32) 1 2 3 (omega arith) (omega arith) (longer r (f .within));
           lays = λ vs size z k.
               let w = set vs (p + 1) (getD s (p + 1) 0) in
@@ -56,6 +58,7 @@ module _ {pass : Pass} {s : List ℕ} {at : ℕ} (p : ℕ) (room : p + 4 ≤ pla
   no-extension out e =
       record {
         size = refl;
+        keeps = finds pass refl;
         within = omega arith;
         lays = λ vs size z k. (vs, extension-off (laying pass s) p (kept vs out) (omega arith) at (λ d. e (sym k ∙ d)) z);
       }
@@ -66,6 +69,7 @@ module _ {pass : Pass} {s : List ℕ} {at : ℕ} (p : ℕ) (room : p + 4 ≤ pla
       let none : getD s p 0 ≡ 0 = zero-left (getD s p 0) l e in
       record {
         size = refl;
+        keeps = finds pass refl;
         within = omega arith;
         lays = λ vs size z k. (vs, form-none (laying pass s) p (kept vs out) (omega arith) at (k ∙ none) z);
       }
@@ -82,6 +86,7 @@ module _ {pass : Pass} {s : List ℕ} {at : ℕ} (p : ℕ) (room : p + 4 ≤ pla
     ssi-then at₁ out₂ r e g =
         record {
           size = g .size ∙ f .size;
+          keeps = keeps-on pass out out₁ out₂ (f .keeps) (g .keeps);
           within = within-on r at at₁ 2 1 3 (omega arith) (longer (subst (λ (x : Put). Within x (at + 32)) e (f .within))) (g .within);
           lays = λ vs size z k.
               let v = getD s (p + 2) 0 in
@@ -101,6 +106,7 @@ module _ {pass : Pass} {s : List ℕ} {at : ℕ} (p : ℕ) (room : p + 4 ≤ pla
     ssi-stop e =
         record {
           size = f .size;
+          keeps = f .keeps;
           within = tt;
           lays = λ vs size z k. (
             set vs (p + 2) (getD s (p + 2) 0),
@@ -116,6 +122,7 @@ module _ {pass : Pass} (items : Items) {s : List ℕ} {at : ℕ} (t p v : ℕ) (
   item-there {out} {out₁} {r} h f =
       record {
         size = f .size;
+        keeps = f .keeps;
         within = subst (λ (n : ℕ). Within r (at + 32 * n)) (length-item items [] p ∙ sym (length-item items (atLeast t v ∷ []) p)) (f .within);
         lays = λ vs size z k.
             let rest = f .lays vs size z tt in
@@ -126,6 +133,7 @@ module _ {pass : Pass} (items : Items) {s : List ℕ} {at : ℕ} (t p v : ℕ) (
   item-absent out h =
       record {
         size = refl;
+        keeps = finds pass refl;
         within = omega arith;
         lays = λ vs size z k. (vs, item-off (laying pass s) items t p v (kept vs out) before at (omega (arith, k)) z (omega arith));
       }

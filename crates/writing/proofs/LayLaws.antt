@@ -120,6 +120,11 @@ finds-join : (pass : Pass) (a b : List Laid) → Finds pass (all good a ≡ true
 finds-join Judge a b f g = all-append good a b ∙ ap₂ _&&_ f g
 finds-join Lay a b f g = tt
 
+-- bytes that are kept, and kept again
+pub keeps-on : (pass : Pass) (a b c : List ℕ) → Finds pass (b ≡ a) → Finds pass (c ≡ b) → Finds pass (c ≡ a)
+keeps-on Judge a b c f g = g ∙ f
+keeps-on Lay a b c f g = tt
+
 -- of a walk that judges; the other asks nothing
 pub finds : (pass : Pass) {A : Type 0} → A → Finds pass A
 finds Judge a = a

@@ -21,8 +21,8 @@ use Rattle.table.specs.Sound.{Clear}
 use Rattle.table.proofs.Walks.{value-before}
 use Rattle.table.proofs.Absent.{length-item, length-repeated}
 use Rattle.table.proofs.ListLaws.{Listing, listing-none, listing-more, listing-stop}
-use Rattle.writing.specs.Lay.{Within, Ready, Passes, Any, Known, Writes}
-use Rattle.writing.proofs.LayLaws.{kept, laying}
+use Rattle.writing.specs.Lay.{Within, Ready, Passes, Any, Known, Writes, Finds}
+use Rattle.writing.proofs.LayLaws.{kept, laying, keeps-on, finds}
 use Rattle.writing.proofs.Parts.{field-then, field-stop}
 
 -- item i of the list whose count is at the place t
@@ -33,6 +33,7 @@ itemAt items t p i = item items (atLeast t (least items i) ∷ []) p
 pub record Listed (pass : Pass) (items : Items) (s : List ℕ) (from t : ℕ) (out₀ out : List ℕ) (at p i : ℕ) : Type 0 where
   pub place : p ≡ t + 1 + stride items * i
   pub size : length out ≡ length out₀
+  pub keeps : Finds pass (out ≡ out₀)
   pub low : at ≤ from + 32 * (stride items * i)
   pub so-far : (vs₀ : List ℕ) → length vs₀ ≡ places → Clear vs₀ (t + 1) → Known s t vs₀
       → (vs : List ℕ) × Listing (laying pass s) items from t (kept vs₀ out₀) (kept vs out) at p i
@@ -43,6 +44,7 @@ module _ {pass : Pass} {items : Items} {s : List ℕ} {from t : ℕ} {out₀ : L
       record {
         place = omega (arith, mul-zero (stride items));
         size = refl;
+        keeps = finds pass refl;
         low = omega arith;
         so-far = λ vs size z k. (vs, listing-none (laying pass s) items from t (kept vs out₀) z);
       }
@@ -62,6 +64,7 @@ module _ {pass : Pass} {items : Items} {s : List ℕ} {from t : ℕ} {out₀ : L
     listed-all =
         record {
           size = now .size;
+          keeps = now .keeps;
           within = omega (arith, now .low, length-repeated items t (t + 1) 0 i);
           lays = λ vs₀ size z k. let rest = now .so-far vs₀ size z k in (rest .0, rest .1 .goes);
         }
@@ -85,6 +88,7 @@ module _ {pass : Pass} {items : Items} {s : List ℕ} {from t : ℕ} {out₀ : L
           record {
             place = omega (arith, now .place, add-one i, mul-suc (stride items) i);
             size = f .size ∙ now .size;
+            keeps = keeps-on pass out₀ out out₁ (now .keeps) (f .keeps);
             low = omega (arith, now .low, length-item items (atLeast t (least items i) ∷ []) p, add-one i, mul-suc (stride items) i);
             so-far = λ vs₀ size z k.
                 let n = next vs₀ size z k in
@@ -95,6 +99,7 @@ module _ {pass : Pass} {items : Items} {s : List ℕ} {from t : ℕ} {out₀ : L
       listed-stop m e h =
           record {
             size = f .size ∙ now .size;
+            keeps = keeps-on pass out₀ out out₁ (now .keeps) (f .keeps);
             within = tt;
             lays = λ vs₀ size z k.
                 let n = next vs₀ size z k in

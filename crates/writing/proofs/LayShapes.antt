@@ -110,10 +110,11 @@ module _ {pass : Pass} {c : Row} {more : List Row} {s : List ℕ} {at p : ℕ} {
       go : (x : Put) (value : ℕ) → value ≡ held c (getD s p 0) → Writes pass Any (c ∷ more) s at p out out′ x
           → Puts pass known (c ∷ more) s at p out out′ (foundOf x value)
       go put.Bad value d f =
-          record { size = f .size; within = tt; finds = λ vs size z k. let w = f .lays vs size z tt in (w .0, w .1 .size, w .1 .ends) }
+          record { size = f .size; keeps = f .keeps; within = tt; finds = λ vs size z k. let w = f .lays vs size z tt in (w .0, w .1 .size, w .1 .ends) }
       go (Next at′) zero d f =
           record {
             size = f .size;
+            keeps = f .keeps;
             within = f .within;
             finds = λ vs size z k.
                 let w = f .lays vs size z tt in (
@@ -125,6 +126,7 @@ module _ {pass : Pass} {c : Row} {more : List Row} {s : List ℕ} {at p : ℕ} {
       go (Next at′) (suc v) d f =
           record {
             size = f .size;
+            keeps = f .keeps;
             within = f .within;
             finds = λ vs size z k.
                 let w = f .lays vs size z tt in
@@ -189,10 +191,10 @@ module _ (n : Refusal) (c : Condition) (s : List ℕ) (at p : ℕ) (out : List �
         go : (pass : Pass) (b : Bool) → ((vs : List ℕ) → Clear vs p → known vs → Finds pass (present (take p vs) (c ∷ []) ≡ b))
             → Puts pass known bar s at p out out (barredOf pass b refusal at)
         go Judge true t =
-            record { size = refl; within = small; finds = λ vs size z k. (vs, refl, stops vs (omega arith) z (t vs z k)) }
+            record { size = refl; keeps = refl; within = small; finds = λ vs size z k. (vs, refl, stops vs (omega arith) z (t vs z k)) }
         go Judge false t =
-            record { size = refl; within = omega arith; finds = λ vs size z k. (vs, refl, bar-off vs (omega arith) z (t vs z k)) }
-        go Lay b t = record { size = refl; within = omega arith; finds = λ vs size z k. (vs, refl, bar-laying vs (omega arith) z _ refl) }
+            record { size = refl; keeps = refl; within = omega arith; finds = λ vs size z k. (vs, refl, bar-off vs (omega arith) z (t vs z k)) }
+        go Lay b t = record { size = refl; keeps = tt; within = omega arith; finds = λ vs size z k. (vs, refl, bar-laying vs (omega arith) z _ refl) }
 
 -- ---- under the line's conditions
 lay-shape : (x : Shape) (hang : List Condition) (p : ℕ) (done s : List ℕ) → present done hang ≡ true → lay (rowsOf x hang p) done s ≡ lay (rowsOf x [] p) done s
@@ -229,6 +231,7 @@ module _ (pass : Pass) (line : ℕ) (s : List ℕ) (last at p : ℕ) where
       under =
           record {
             size = f .size;
+            keeps = f .keeps;
             within = subst (λ (m : ℕ). PassedWithin r (at + 32 * m)) n (f .within);
             finds = λ vs size z k.
                 let w = f .finds vs size z (subst (λ (y : Shape). Looks pass s last p y vs) (sym d) (k .looks on)) in
@@ -245,6 +248,7 @@ module _ (pass : Pass) (line : ℕ) (s : List ℕ) (last at p : ℕ) where
   element-off out off room =
       record {
         size = refl;
+        keeps = finds pass refl;
         within = omega arith;
         finds = λ vs size z k.
             let shut = shut-element line (shapeOf line) p vs (k .hang ∙ off) z in

@@ -16,7 +16,7 @@ use Rattle.table.specs.declared.Field.{Field}
 use Rattle.table.specs.Fields.{rowFor}
 use Rattle.table.specs.Sound.{Clear}
 use Rattle.writing.specs.Lay.{mostBits, Within, Ready, Passes, Lays, Known, Writes}
-use Rattle.writing.proofs.LayLaws.{kept, laying}
+use Rattle.writing.proofs.LayLaws.{kept, laying, keeps-on}
 
 -- ---- what the next part starts from
 pub ready-most : {at p n : ℕ} → Ready at p n → at ≤ mostBits
@@ -45,7 +45,7 @@ module _ {pass : Pass} {f : Field} {v at : ℕ} {out out₁ : List ℕ} {r₁ : 
 
   -- a field alone
   pub field-writes : (known : List ℕ → Type 0) → Writes pass known (rowFor f [] ∷ []) s at p out out₁ r₁
-  field-writes known = record { size = passed .size; within = passed .within; lays = λ vs size z k. (set vs p v, here vs size) }
+  field-writes known = record { size = passed .size; keeps = passed .keeps; within = passed .within; lays = λ vs size z k. (set vs p v, here vs size) }
 
   -- a field, and rows that know its value
   pub field-then : (at₁ : ℕ) (more : List Row) (out₂ : List ℕ) (r : Put) (known : List ℕ → Type 0) → v ≡ getD s p 0 → r₁ ≡ Next at₁
@@ -53,6 +53,7 @@ module _ {pass : Pass} {f : Field} {v at : ℕ} {out out₁ : List ℕ} {r₁ : 
   field-then at₁ more out₂ r known d e g =
       record {
         size = g .size ∙ passed .size;
+        keeps = keeps-on pass out out₁ out₂ (passed .keeps) (g .keeps);
         within = within-on r at at₁ 1 (length more) (suc (length more)) (omega arith) (subst (λ (x : Put). Within x (at + 32)) e (passed .within)) (g .within);
         lays = λ vs size z k.
             let vs₁ = set vs p v in
@@ -68,6 +69,7 @@ module _ {pass : Pass} {f : Field} {v at : ℕ} {out out₁ : List ℕ} {r₁ : 
   field-stop more known e =
       record {
         size = passed .size;
+        keeps = passed .keeps;
         within = tt;
         lays = λ vs size z k. (
           set vs p v,

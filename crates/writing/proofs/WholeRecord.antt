@@ -37,7 +37,7 @@ use Rattle.writing.specs.declared.Walked.the-variants as walked
 use Rattle.writing.specs.Lay.{Does, Finds, Lies, Ready}
 use Rattle.writing.specs.Found.{Looks, LooksAlong, Found, PassedWithin, Puts}
 use Rattle.writing.specs.Whole.{Outcome, Walks}
-use Rattle.writing.proofs.LayLaws.{lay-append, vals-append, lies-none, lies-join, finds}
+use Rattle.writing.proofs.LayLaws.{lay-append, vals-append, lies-none, lies-join, keeps-on, finds}
 use Rattle.writing.proofs.Since.{Since, since-none, since-empty, since-held}
 
 -- what has a code has one or is the missing group's
@@ -71,6 +71,7 @@ pub record Wrote (pass : Pass) (kind : Kind) (s out₀ out : List ℕ) (grouped 
   pub whole : laid kind s ≡ done ++ lay (unrolled (drop count (tableOf kind)) p) (take p vs) (drop p s)
   pub lies : Lies pass done p headBits at 0 (replicate places 0) vs out₀ out
   pub same : length out ≡ length out₀
+  pub keeps : Finds pass (out ≡ out₀)
   pub low : at ≤ 32 * p + headBits
   pub fine : Fine pass done grouped
   pub placed : Placed (tableOf kind) p count
@@ -92,6 +93,7 @@ wrote-none pass kind s out k e =
       whole = refl;
       lies = lies-none pass headBits 0 (replicate places 0) out;
       same = refl;
+      keeps = finds pass refl;
       low = omega arith;
       fine = fine pass;
       placed = placed-none kind;
@@ -232,6 +234,7 @@ module _ {pass : Pass} {kind : Kind} {s out₀ out : List ℕ} {grouped : Bool} 
                 (lies-join pass (now .done) here p (length own-rows) headBits at at′ 0 (replicate places 0) (now .vs) vs′ out₀ out out′ (now .lies)
                 (subst (λ (x : ℕ). Lies pass here (length own-rows) at at′ x (now .vs) vs′ out out′) (sym (zero-add p)) g));
             same = f .size ∙ now .same;
+            keeps = keeps-on pass out₀ out out′ (now .keeps) (f .keeps);
             low = omega (arith, now .low, n-rows);
             fine = fine;
             placed = line-more (now .placed) inside says;
@@ -295,7 +298,7 @@ module _ {pass : Pass} {kind : Kind} {s out₀ out : List ℕ} {grouped : Bool} 
           noted Lay a = tt
 
       pub turn-bad : r ≡ passed.Bad → Walks pass (laid kind s) out₀ out′ walked.Reserved
-      turn-bad d = record { size = f .size ∙ now .same; outcome = outcome pass }
+      turn-bad d = record { size = f .size ∙ now .same; keeps = keeps-on pass out₀ out out′ (now .keeps) (f .keeps); outcome = outcome pass }
         where
           coded : all goodButGroup (laid kind s) ≡ false
           coded =
@@ -323,7 +326,7 @@ module _ {pass : Pass} {kind : Kind} {s out₀ out : List ℕ} {grouped : Bool} 
     laid-over pass f = subst (λ (l : List Laid). Does pass l headBits out₀ out) (sym all-done) (f .does)
 
     pub wrote-bits : grouped ≡ true → Walks pass (laid kind s) out₀ out (walked.Bits at)
-    wrote-bits g = record { size = now .same; outcome = outcome pass (now .lies) (now .fine) }
+    wrote-bits g = record { size = now .same; keeps = now .keeps; outcome = outcome pass (now .lies) (now .fine) }
       where
         outcome : (pass : Pass) → Lies pass (now .done) p headBits at 0 (replicate places 0) (now .vs) out₀ out → Fine pass (now .done) grouped
             → Outcome pass (laid kind s) out₀ out (walked.Bits at)
@@ -335,7 +338,7 @@ module _ {pass : Pass} {kind : Kind} {s out₀ out : List ℕ} {grouped : Bool} 
         outcome Lay f a = laid-over Lay f
 
     pub wrote-group : grouped ≡ false → Walks pass (laid kind s) out₀ out walked.NoGroup
-    wrote-group g = record { size = now .same; outcome = outcome pass (now .lies) (now .fine) }
+    wrote-group g = record { size = now .same; keeps = now .keeps; outcome = outcome pass (now .lies) (now .fine) }
       where
         outcome : (pass : Pass) → Lies pass (now .done) p headBits at 0 (replicate places 0) (now .vs) out₀ out → Fine pass (now .done) grouped
             → Outcome pass (laid kind s) out₀ out walked.NoGroup

@@ -22,6 +22,7 @@ use Rattle.layout.specs.declared.Judged.the-variants as judged
 use Rattle.writing.specs.declared.Pass.the-variants.{Judge, Lay}
 use Rattle.writing.specs.declared.Walked.{Walked}
 use Rattle.writing.specs.declared.Walked.the-variants as walked
+use Rattle.layout.specs.declared.Written.{Written}
 use Rattle.layout.specs.declared.Written.the-variants as written
 use Rattle.layout.specs.Row.{all}
 use Rattle.layout.specs.Write.{good, goodButGroup, emit}
@@ -171,6 +172,13 @@ pub refused-record : (kind : Kind) (s out : List ℕ) (start : ℕ) (n : Refusal
     → (written.Refused n ≡ writtenOf kind s (length out) start) × (out ≡ outputOf kind s out start)
 unfolding writtenOf outputOf
 refused-record kind s out start n e = (rw (← e), rw (← e))
+
+-- what is answered and left of bytes that are as they were
+pub written-after : (kind : Kind) (s : List ℕ) (start : ℕ) {r : Written} {out out₁ out₂ : List ℕ} → out₁ ≡ out
+    → (r ≡ writtenOf kind s (length out₁) start) × (out₂ ≡ outputOf kind s out₁ start)
+    → (r ≡ writtenOf kind s (length out) start) × (out₂ ≡ outputOf kind s out start)
+written-after kind s start {r} {out} {out₁} {out₂} e f =
+    subst (λ (x : List ℕ). (r ≡ writtenOf kind s (length x) start) × (out₂ ≡ outputOf kind s x start)) e f
 
 pub counted : (kind : Kind) (s : List ℕ) (r : Walked) (n : ℕ) → r ≡ walked.Bits n → Counts kind s r → Count kind s (walked.Bits n)
 counted kind s r n e f = subst (λ (x : Walked). Counts kind s x) e f .count

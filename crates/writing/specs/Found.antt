@@ -57,6 +57,7 @@ PassedWithin passed.NoGroup most = Unit {0}
 
 pub record Puts (pass : Pass) (known : List ℕ → Type 0) (rows : List Row) (s : List ℕ) (at p : ℕ) (out out′ : List ℕ) (r : Passed) : Type 0 where
   pub size : length out′ ≡ length out
+  pub keeps : Finds pass (out′ ≡ out)
   pub within : PassedWithin r (at + 32 * length rows)
   pub finds : (vs : List ℕ) → length vs ≡ places → Clear vs p → known vs
       → (vs′ : List ℕ) × (length vs′ ≡ length vs) × Found pass (lay rows (take p vs) (drop p s)) (length rows) at p vs vs′ out out′ r

@@ -29,12 +29,12 @@ pub record Over (out out′ : List ℕ) (at : ℕ) (new : List Bool) : Type 0 wh
   pub size : length out′ ≡ length out
   pub bits : at + length new ≤ 8 * length out → bitsOf out′ ≡ take at (bitsOf out) ++ (new ++ drop (at + length new) (bitsOf out))
 
--- the walk that lays puts the rows' bits over those of the bytes, where every value has a code
+-- the walk that lays puts the rows' bits over those of the bytes, where every value has a code; the walk that judges lays nothing (`keeps` below)
 abbrev pub Does : Pass → List Laid → ℕ → List ℕ → List ℕ → Type 0
 Does Judge laid at out out′ = Unit {0}
 Does Lay laid at out out′ = all good laid ≡ true → Over out out′ at (emit laid)
 
--- what the walk that judges finds; the walk that lays finds nothing out
+-- what holds of the walk that judges alone
 abbrev pub Finds : Pass → Type 0 → Type 0
 Finds Judge what = what
 Finds Lay what = Unit {0}
@@ -72,6 +72,7 @@ pub record Ready (at p n : ℕ) : Type 0 where
 -- a field's value, wherever it stands
 pub record Passes (pass : Pass) (f : Field) (v at : ℕ) (out out′ : List ℕ) (r : Put) : Type 0 where
   pub size : length out′ ≡ length out
+  pub keeps : Finds pass (out′ ≡ out)
   pub within : Within r (at + 32)
   pub lays : (s vs : List ℕ) (p : ℕ) → p < length vs → v ≡ held (rowFor f []) (getD s p 0) → Lays pass (rowFor f [] ∷ []) s at p vs (set vs p v) out out′ r
 
@@ -84,5 +85,6 @@ Known s q vs = getD vs q 0 ≡ getD s q 0
 
 pub record Writes (pass : Pass) (known : List ℕ → Type 0) (rows : List Row) (s : List ℕ) (at p : ℕ) (out out′ : List ℕ) (r : Put) : Type 0 where
   pub size : length out′ ≡ length out
+  pub keeps : Finds pass (out′ ≡ out)
   pub within : Within r (at + 32 * length rows)
   pub lays : (vs : List ℕ) → length vs ≡ places → Clear vs p → known vs → (vs′ : List ℕ) × Lays pass rows s at p vs vs′ out out′ r

@@ -16,7 +16,7 @@ use Rattle.refusal.specs.declared.Refusal.the-variants.{Reserved, NoGroup}
 use Rattle.layout.specs.declared.Kind.{Kind}
 use Rattle.layout.specs.declared.Judged.{Judged}
 use Rattle.layout.specs.declared.Judged.the-variants as judged
-use Rattle.writing.specs.Lay.{Over, mostBits}
+use Rattle.writing.specs.Lay.{Over, mostBits, Finds}
 
 -- what a walk over it finds, and leaves in the bytes after the head
 abbrev pub Outcome : Pass → List Laid → List ℕ → List ℕ → Walked → Type 0
@@ -27,6 +27,7 @@ Outcome Lay laid out out′ r = all good laid ≡ true → Over out out′ headB
 
 pub record Walks (pass : Pass) (laid : List Laid) (out out′ : List ℕ) (r : Walked) : Type 0 where
   pub size : length out′ ≡ length out
+  pub keeps : Finds pass (out′ ≡ out)
   pub outcome : Outcome pass laid out out′ r
 
 -- as a judgement of the record

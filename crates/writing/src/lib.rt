@@ -62,12 +62,11 @@ fn judged(walked: Walked) -> Judged
     }
 }
 
-// The walk that judges and counts. It lays nothing, so the bytes that it is lent are none of the caller's.
-fn walk(kind: Kind, values: &[u32; PLACES]) -> Walked
-    ensures { λ r. ⌜ Counts kind (now (values .entry)) r ⌝ }
+// The walk that judges and counts. It lays nothing: `out` is as it was.
+fn walk(kind: Kind, values: &[u32; PLACES], out: &mut [u8]) -> Walked
+    ensures { λ r. ⌜ Counts kind (now (values .entry)) r × (now (out .exit) ≡ now (out .entry)) ⌝ }
 {
-    let mut none = [0u8; 1];
-    walk_elements(Pass::Judge, kind, values, &mut none)
+    walk_elements(Pass::Judge, kind, values, out)
 }
 
 // A whole frame that is known to be writable: the head, then the elements.
@@ -124,7 +123,8 @@ fn write_part(
 pub fn judge_record(kind: Kind, values: &[u32; PLACES]) -> Judged
     ensures { λ r. ⌜ r ≡ spec.judgedOf kind (now (values .entry)) ⌝ }
 {
-    judged(walk(kind, values))
+    let mut none = [0u8; 1];
+    judged(walk(kind, values, &mut none))
 }
 
 // Writes a record, or refuses it and leaves `out` as it is.
@@ -132,7 +132,7 @@ pub fn write_record(kind: Kind, values: &[u32; PLACES], out: &mut [u8], start: u
     ensures { λ r. ⌜ (r ≡ spec.writtenOf kind (now (values .entry)) (length (now (out .entry))) start)
         × (now (out .exit) ≡ spec.outputOf kind (now (values .entry)) (now (out .entry)) start) ⌝ }
 {
-    match walk(kind, values) {
+    match walk(kind, values, out) {
         Walked::Bits(n) => write_part(kind, values, out, start, n),
         Walked::Reserved => Written::Refused(Refusal::Reserved),
         Walked::NoGroup => Written::Refused(Refusal::NoGroup),

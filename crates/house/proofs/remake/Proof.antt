@@ -49,7 +49,8 @@ returns-2 : tie.Need-returns-2
 returns-2 c =
     let given = c .before .before .before .before .before .before .before .before .before .before .before .args in
     let wrote = c .before .before .before .before .before .before .before .before .write in
-    sent (ap (made (given .kind) (given .values .now)) (sym (wrote .ensures .0) ∙ c .before .before .before .before .before .refusal .given .1)) (c .before .before .refuse .ensures)
+    sent (ap (made (given .kind) (given .values .now)) (sym (wrote .ensures .0) ∙ c .before .before .before .before .before .refusal .given .1))
+    (c .before .before .refuse .ensures)
 
 pub remake-spec : {M : Type 1} → statement M
 remake-spec =

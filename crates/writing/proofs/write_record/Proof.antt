@@ -3,7 +3,7 @@
 use mathlib.Core.Path.{sym, subst}
 use mathlib.Core.Bool.{Bool}
 use lib.Dec.{T}
-use Rattle.writing.proofs.WriteLaws.{counted, refused-by, refused-record}
+use Rattle.writing.proofs.WriteLaws.{counted, refused-by, refused-record, written-after}
 use borrow.Author.Needs.{needs}
 use Rattle.writing.proofs.write_record.Statement.{statement}
 use Rattle.writing.proofs.write_record.Tie as tie
@@ -16,8 +16,9 @@ enum-known-n c = search needs
 
 write-part-requires : tie.Need-write-part-requires
 write-part-requires c κs =
-    let a = c .before .before .before .before .before .before .args in
-    let k = counted (a .kind) (a .values .now) _ _ (c .before .before .n .given .1) (c .before .before .before .before .walk .ensures) in
+    let s = c .before .before .before .before .before .before .before .before .before in
+    let w = c .before .before .before .before .before .before in
+    let k = counted (s .args .kind) (s .args .values .now) _ _ (c .before .before .n .given .1) (w .walk .ensures .0) in
     (subst (λ (b : Bool). T b) (sym (k .0)) tt, k .1, k .2)
 
 enum-told : tie.Need-enum-told
@@ -30,19 +31,32 @@ same-length : tie.Need-same-length
 same-length c = search needs
 
 returns : tie.Need-returns
-returns c = search needs
+returns c =
+    let s = c .before .before .before .before .before .before .before .before .before .before .before .before in
+    let w = c .before .before .before .before .before .before .before .before .before in
+    written-after (s .args .kind) (s .args .values .now) (s .args .start) (w .walk .ensures .1) (c .before .before .write-part .ensures)
+
+same-length-2 : tie.Need-same-length-2
+same-length-2 c = search needs
 
 returns-2 : tie.Need-returns-2
 returns-2 c =
-    let a = c .before .before .before .before .args in
-    refused-record (a .kind) (a .values .now) (a .out .now) (a .start) _
-    (refused-by (a .kind) (a .values .now) _ _ (c .enum-told .given .1) (c .before .before .walk .ensures))
+    let s = c .before .before .before .before .before .before .before in
+    let w = c .before .before .before .before in
+    written-after (s .args .kind) (s .args .values .now) (s .args .start) (w .walk .ensures .1)
+    (refused-record (s .args .kind) (s .args .values .now) _ (s .args .start) _
+    (refused-by (s .args .kind) (s .args .values .now) _ _ (c .enum-told .given .1) (w .walk .ensures .0)))
+
+same-length-3 : tie.Need-same-length-3
+same-length-3 c = search needs
 
 returns-3 : tie.Need-returns-3
 returns-3 c =
-    let a = c .before .before .before .before .args in
-    refused-record (a .kind) (a .values .now) (a .out .now) (a .start) _
-    (refused-by (a .kind) (a .values .now) _ _ (c .enum-told2 .given .1) (c .before .before .walk .ensures))
+    let s = c .before .before .before .before .before .before .before in
+    let w = c .before .before .before .before in
+    written-after (s .args .kind) (s .args .values .now) (s .args .start) (w .walk .ensures .1)
+    (refused-record (s .args .kind) (s .args .values .now) _ (s .args .start) _
+    (refused-by (s .args .kind) (s .args .values .now) _ _ (c .enum-told2 .given .1) (w .walk .ensures .0)))
 
 pub write-record-spec : {M : Type 1} → statement M
 write-record-spec =
@@ -55,5 +69,7 @@ write-record-spec =
     enum-told-2
     same-length
     returns
+    same-length-2
     returns-2
+    same-length-3
     returns-3)

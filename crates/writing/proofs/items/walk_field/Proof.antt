@@ -32,6 +32,7 @@ returns c =
     rw (c .before .before .enum-told .given .1)
     record {
       size = refl;
+      keeps = refl;
       within = tt;
       lays = λ s vs p inside is. field-bad _ s _ p vs _ inside narrow _ is _ (code .ensures) (omega (arith, code .ok)) (c .if1 .taken);
     }
@@ -43,6 +44,7 @@ returns-2 c =
     rw (c .before .before .enum-told .given .1)
     record {
       size = refl;
+      keeps = refl;
       within = omega (arith, narrow .few);
       lays = λ s vs p inside is. field-good _ s _ p vs _ inside narrow _ is _ (code .ensures) (omega (arith, code .ok)) (c .if1 .left);
     }
@@ -58,6 +60,7 @@ returns-3 c =
     rw (c .before .before .before .before .enum-told2 .given .1)
     record {
       size = same-length c;
+      keeps = tt;
       within = omega (arith, narrow .few);
       lays = λ s vs p inside is. field-laid _ s _ p vs _ inside narrow _ is _ (code .ensures) (omega (arith, code .ok)) _ put;
     }
