@@ -1,6 +1,6 @@
 -- The reader's loop over a table's elements: the rest, read from where it stands, is what the whole is read as.
 -- Assumes nothing.
-use Prim.Native.Nat.{ℕ, zero, suc, _+_, _-_, _*_, _≤_, _<_}
+use Prim.Native.Nat.{ℕ, suc, _+_, _-_, _*_, _≤_, _<_}
 use mathlib.Core.Path.{_≡_, refl, ap, ap₂, sym, _∙_, subst}
 use mathlib.Core.Bool.{Bool, true, false, cond, not}
 use mathlib.Core.List.{List, [], _∷_, _++_}
@@ -27,7 +27,7 @@ use Rattle.table.specs.Sound.{Clear, sound}
 use Rattle.reading.specs.Reads.{whole, onward, Reads}
 use Rattle.reading.proofs.ReadLaws.{reading, whole-length}
 use Rattle.table.proofs.Absent.{length-shape}
-use Rattle.table.proofs.Walks.{clear-after}
+use Rattle.table.proofs.Walks.{clear-none, clear-after}
 use Rattle.table.proofs.TableLaws.{Said, said, Own, Placed, placed-none, line-room, line-sound, line-span, line-rows, line-more}
 
 -- the line k of the kind is the next: so many elements are passed
@@ -46,12 +46,7 @@ all-zero (x ∷ l) z = ap₂ _∷_ (z 0) (all-zero l (λ q. z (suc q)))
 pub going-none : (kind : Kind) (begin end : ℕ) (bits : List Bool) (from : ℕ) → Own kind begin end → Going kind bits from (replicate places 0) from 0 begin
 unfolding rows
 going-none kind begin end bits from own =
-    record { passed = 0; here = omega arith; same = refl; placed = placed-none kind; clear = λ q h. zeros places q; size = refl }
-  where
-    zeros : (n q : ℕ) → getD {A = ℕ} (replicate n 0) q 0 ≡ 0
-    zeros zero q = refl
-    zeros (suc n) zero = refl
-    zeros (suc n) (suc q) = zeros n q
+    record { passed = 0; here = omega arith; same = refl; placed = placed-none kind; clear = clear-none places 0; size = refl }
 
 module _ {kind : Kind} {begin end : ℕ} (own : Own kind begin end) {bits : List Bool} {from : ℕ} {vs : List ℕ} {at p k : ℕ}
     (now : Going kind bits from vs at p k) where

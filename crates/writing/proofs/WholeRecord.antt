@@ -1,6 +1,6 @@
 -- The walk over a table's elements: what is passed so far, and what is left.
 -- Assumes nothing.
-use Prim.Native.Nat.{ℕ, zero, suc, _+_, _*_, _≤_, _<_}
+use Prim.Native.Nat.{ℕ, suc, _+_, _*_, _≤_, _<_}
 use mathlib.Core.Path.{_≡_, refl, ap, ap₂, sym, _∙_, subst}
 use mathlib.Core.Bool.{Bool, true, false, _&&_}
 use mathlib.Core.List.{List, [], _∷_, _++_, append-assoc, append-nil}
@@ -25,7 +25,7 @@ use Rattle.layout.proofs.Chains.{tables-chained, tables-bounded, chain-first, l
 use Rattle.table.specs.Lines.{firstLine, past, lineNumber, hangOf, shapeOf, placesOf}
 use Rattle.table.specs.Sound.{Clear, sound}
 use Rattle.table.proofs.Absent.{length-shape}
-use Rattle.table.proofs.Walks.{clear-later}
+use Rattle.table.proofs.Walks.{clear-none, clear-later}
 use Rattle.table.proofs.ShapeLaws.{sound-nothing}
 use Rattle.table.proofs.TableLaws.{Said, said, Own, Placed, placed-none, first, line-room, line-sound, line-span, line-rows, line-more}
 use Rattle.writing.specs.declared.Pass.{Pass}
@@ -88,7 +88,7 @@ wrote-none pass kind s out k e =
       line = omega (arith, e);
       vs = replicate places 0;
       size = length-replicate {A = ℕ} places 0;
-      clear = λ q h. zeros places q;
+      clear = clear-none places 0;
       done = [];
       whole = refl;
       lies = lies-none pass headBits 0 (replicate places 0) out;
@@ -102,11 +102,6 @@ wrote-none pass kind s out k e =
       since = finds pass (since-none (tableOf kind) (replicate places 0));
     }
   where
-    zeros : (n q : ℕ) → getD {A = ℕ} (replicate n 0) q 0 ≡ 0
-    zeros zero q = refl
-    zeros (suc n) zero = refl
-    zeros (suc n) (suc q) = zeros n q
-
     fine : (pass : Pass) → Fine pass [] true
     fine Judge = (refl, refl)
     fine Lay = λ d. d

@@ -51,11 +51,11 @@ loop-less c = search needs
 
 loop-again : tie.Need-loop-again Inv-loop μ-loop
 loop-again c =
-    let taken = c .before .before .before .before .before .before .before .before .before .take-byte in
+    let turn = c .before .before .before .before .before .before .before .before .before in
+    let taken = turn .take-byte in
     let within : HeldIn (length (taken .last .1 .0)) (Held (c .before .left .given .0 .0)) = subst (HeldIn (length (taken .last .1 .0)))
     (c .before .left .given .1) (taken .ensures) in
-    let kept : length (taken .last .1 .0) ≡ length
-    (c .before .before .before .before .before .before .before .before .before .before .before .before .before .before .before .before .loop .line) = search needs in
+    let kept : length (taken .last .1 .0) ≡ length (turn .before .before .before .before .before .before .before .loop .line) = search needs in
     (search needs, search needs, search needs, search needs, omega arith)
 
 same-length-5 : tie.Need-same-length-5 Inv-loop μ-loop
