@@ -10,10 +10,11 @@ use native.Mathlib.Omega.{arith}
 use borrow.Author.Tests.{le-leb, lt-leb, eq-eqb, ne-eqb, eqb-true}
 use Rattle.bits.specs.Bits.{bytesFor}
 use Rattle.layout.specs.declared.Kind.{Kind}
+use Rattle.layout.specs.Kinds.{kinds}
 use Rattle.house.specs.declared.Line.{Line}
 use Rattle.house.specs.declared.Line.the-variants.{Frame, Bad}
 use Rattle.house.specs.Hex.{allDigits, bytesFrom}
-use Rattle.house.specs.Kinds.{kindNumber, kinds}
+use Rattle.house.specs.Kinds.{kindNumber}
 use Rattle.house.specs.Heading.{bitCount, named, headed, headingOf, partOf, splitOf}
 use Rattle.house.specs.Unpacked.{Holds, Filled, Unpacked}
 use Rattle.house.proofs.Hex.{length-bytes}
@@ -43,6 +44,20 @@ module _ (line : List ℕ) where
   all-good : allDigits line ≡ true → length line ≤ 432 → headingOf line ≡ headed (bytesFrom line) (length line)
   unfolding headingOf
   all-good h l = simp (h, le-leb _ _ l)
+
+-- a number that is none of these kinds', as a match over their numbers tells it, which begins with what is told before
+abbrev NoneOf : Type 0 → List Kind → ℕ → Type 0
+NoneOf before [] number = before
+NoneOf before (kind ∷ known) number = NoneOf (before × (number ≡ kindNumber kind → ⊥)) known number
+
+unnamed : (before : Type 0) (known : List Kind) (number bits : ℕ) → NoneOf before known number → (Bad ≡ named known number bits) × before
+unnamed before [] number bits none = (refl, none)
+unnamed before (kind ∷ known) number bits none =
+    let rest = unnamed (before × (number ≡ kindNumber kind → ⊥)) known number bits none in
+    (simp (ne-eqb _ _ (rest .1 .1)) (rest .0), rest .1 .0)
+
+pub no-kind : (number bits : ℕ) → NoneOf Unit kinds number → Bad ≡ named kinds number bits
+no-kind number bits none = unnamed Unit kinds number bits none .0
 
 -- a buffer whose front holds `vs`
 front-at : (l vs : List ℕ) (k : ℕ) → k < length vs → length vs ≤ length l → getD (sets l 0 vs) k 0 ≡ getD vs k 0

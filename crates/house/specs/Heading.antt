@@ -6,10 +6,11 @@ use lib.Dec.{leb, eqb}
 use lib.ListN.{length, getD, drop}
 use Rattle.bits.specs.Bits.{bytesFor}
 use Rattle.layout.specs.declared.Kind.{Kind}
+use Rattle.layout.specs.Kinds.{kinds}
 use Rattle.house.specs.declared.Line.{Line}
 use Rattle.house.specs.declared.Line.the-variants.{Frame, Bad}
 use Rattle.house.specs.Hex.{allDigits, bytesFrom}
-use Rattle.house.specs.Kinds.{kindNumber, kinds}
+use Rattle.house.specs.Kinds.{kindNumber}
 
 -- the two bytes behind the kind's
 abbrev pub bitCount : List ℕ → ℕ

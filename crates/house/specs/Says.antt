@@ -8,10 +8,11 @@ use Rattle.bits.specs.Bits.{bytesFor}
 use Rattle.refusal.specs.Says.{Says, accepted, refusedWith}
 use Rattle.refusal.specs.declared.Refusal.the-variants.{BadLine}
 use Rattle.layout.specs.declared.Kind.{Kind}
+use Rattle.layout.specs.Kinds.{kinds}
 use Rattle.house.specs.declared.Line.{Line}
 use Rattle.house.specs.declared.Line.the-variants.{Frame, Bad}
 use Rattle.house.specs.Hex.{allDigits, bytesFrom}
-use Rattle.house.specs.Kinds.{kindNumber, kinds}
+use Rattle.house.specs.Kinds.{kindNumber}
 use Rattle.house.specs.Heading.{bitCount}
 
 abbrev pub lineSays : Line → Says
