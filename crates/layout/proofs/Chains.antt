@@ -10,31 +10,25 @@ use lib.Dec.{T, eqb, ltb, ltb→lt}
 use lib.ListN.{length, take, getD}
 use lib.Seq.{getD-take}
 use Rattle.layout.specs.declared.Kind.{Kind}
-use Rattle.layout.specs.declared.Kind.the-variants.{Define, DefineAck, Cancel, CancelAck}
 use Rattle.layout.specs.declared.Element.{Element}
 use Rattle.layout.specs.declared.Shape.the-variants.{Missing}
 use Rattle.layout.specs.Row.{Condition, is, atLeast, nothingSince, Row, holds, all, present, nothing, there}
 use Rattle.layout.specs.Shape.{No, rowsOf, repeated, span, spans, conditionsOf, unrolled}
-use Rattle.layout.specs.Table.{define, defineAck, cancel, cancelAck, tableOf}
+use Rattle.layout.specs.Kinds.{tableOf}
 use Rattle.layout.specs.Write.{idle, held, lay, vals}
 use Rattle.layout.specs.Frame.{rows, clean}
 use Rattle.layout.specs.Chain.{same, among, earlier, under, chained, own, looks, chainedFrom, begins, bounded}
+use Rattle.layout.proofs.EachKind.{every-test}
 use Rattle.layout.proofs.Tests.{left, right, both, and-true, told, either, all-append, both-true}
 
 -- ---- every element of every table looks along a chain, and what comes since an O-bit begins with an element
 pub tables-chained : (kind : Kind) → T (chainedFrom (rows kind) (tableOf kind) 0)
-unfolding chainedFrom rows unrolled rowsOf repeated span spans define defineAck cancel cancelAck
-tables-chained Define = tt
-tables-chained DefineAck = tt
-tables-chained Cancel = tt
-tables-chained CancelAck = tt
+unfolding chainedFrom rows unrolled rowsOf repeated span spans tableOf
+tables-chained = every-test (λ kind. chainedFrom (rows kind) (tableOf kind) 0) tt
 
 pub tables-bounded : (kind : Kind) → T (bounded (tableOf kind) (tableOf kind))
-unfolding bounded begins span spans define defineAck cancel cancelAck
-tables-bounded Define = tt
-tables-bounded DefineAck = tt
-tables-bounded Cancel = tt
-tables-bounded CancelAck = tt
+unfolding bounded begins span spans tableOf
+tables-bounded = every-test (λ kind. bounded (tableOf kind) (tableOf kind)) tt
 
 -- of the first element, and of those behind it
 pub chain-first : (rows : List Row) (e : Element) (es : List Element) (p : ℕ) → T (chainedFrom rows (e ∷ es) p)

@@ -1,19 +1,18 @@
 -- The round trip of a frame of any kind, in bits and then in bytes: what is written is read, and what is read is written again.
 -- Assumes nothing.
-use Prim.Native.Nat.{ℕ, zero, suc, _+_, _-_, _*_, _≤_}
+use Prim.Native.Nat.{ℕ, zero, suc, _+_, _-_, _*_, _^_, _≤_, _<_}
 use mathlib.Core.Path.{_≡_, refl, ap, _∙_, subst}
 use mathlib.Core.Bool.{Bool, true, false, cond, not, _&&_}
 use mathlib.Core.List.{List, [], _∷_, _++_, append-assoc}
 use native.Mathlib.Omega.{arith}
-use borrow.Author.Tests.{le-ltb, ltb-false, leb-true, le-leb, eqb-true}
-use lib.Dec.{T, ltb, eqb, leb}
+use borrow.Author.Tests.{le-ltb, ltb-false, leb-true, le-leb, eqb-true, eq-eqb}
+use lib.Dec.{T, ltb, eqb, leb, ltb→lt}
 use lib.ListN.{length, take, drop, replicate, length-append, length-drop}
-use lib.Seq.{take-append-seam, drop-at, drop-drop, length-take-le}
+use lib.Seq.{take-append-seam, take-at, drop-at, drop-drop, length-take-le}
 use Rattle.refusal.specs.declared.Refusal.the-variants.{EndsInside, WrongKind, Reserved, NoGroup, NoSpace}
 use Rattle.bits.specs.Bits.{digits, value, bitsOf, bytesFor, bytesOf, spare}
-use Rattle.bits.proofs.Laws.{digits-drop, bits-bytes, bitsOf-append, length-bitsOf, length-bytesOf}
+use Rattle.bits.proofs.Laws.{length-digits, value-digits, digits-drop, bits-bytes, bitsOf-append, length-bitsOf, length-bytesOf}
 use Rattle.layout.specs.declared.Kind.{Kind}
-use Rattle.layout.specs.declared.Kind.the-variants.{Define, DefineAck, Cancel, CancelAck}
 use Rattle.layout.specs.declared.Reading.{Reading}
 use Rattle.layout.specs.declared.Verdict.the-variants.{Frame}
 use Rattle.layout.specs.declared.Judged.{Judged}
@@ -26,18 +25,19 @@ use Rattle.layout.specs.Row.{Row, fits, all, there}
 use Rattle.layout.specs.Read.{Answer, frame, refused, readRows}
 use Rattle.layout.specs.Write.{held, lay, good, goodButGroup, vals, emit}
 use Rattle.layout.specs.Shape.{unrolled, rowsOf, repeated, span, spans}
-use Rattle.layout.specs.Table.{ssType, actionType, define, defineAck, cancel, cancelAck}
+use Rattle.layout.specs.Kinds.{tableOf, ssType, actionType}
 use Rattle.layout.specs.Frame.{rows, head, places, filled, read, readBytes, asReading, readingOf}
 use Rattle.layout.specs.Frame.{laid, clean, valid, write, judgedOf, writtenIf, writtenOf, outputOf}
+use Rattle.layout.proofs.EachKind.{every-test}
 use Rattle.layout.proofs.RoundTrip.{read-emit, Sound, sound, lay-clean}
 
--- ---- the tables: no row has more codes than its bits can hold
+-- ---- the tables: no row has more codes than its bits can hold, nor has the action type
 pub tables-fit : (kind : Kind) → T (all fits (rows kind))
-unfolding rows unrolled rowsOf repeated span spans define defineAck cancel cancelAck
-tables-fit Define = tt
-tables-fit DefineAck = tt
-tables-fit Cancel = tt
-tables-fit CancelAck = tt
+unfolding rows unrolled rowsOf repeated span spans tableOf
+tables-fit = every-test (λ kind. all fits (rows kind)) tt
+
+action-fits : (kind : Kind) → actionType kind < 2 ^ 4
+action-fits kind = ltb→lt _ _ (every-test (λ kind. ltb (actionType kind) (2 ^ 4)) tt kind)
 
 -- ---- the head
 -- a head is not cut short in ten bits or more
@@ -46,11 +46,20 @@ whole-head n a long = rw (le-ltb n 6 (omega arith), le-ltb n 10 long)
 
 -- after its kind's head a frame is read row by row
 read-head : (kind : Kind) (bits : List Bool) → read kind (head kind ++ bits) ≡ readRows (rows kind) [] 10 bits
-unfolding read head digits value
-read-head Define bits = whole-head (length (head Define ++ bits)) _ (omega arith)
-read-head DefineAck bits = whole-head (length (head DefineAck ++ bits)) _ (omega arith)
-read-head Cancel bits = whole-head (length (head Cancel ++ bits)) _ (omega arith)
-read-head CancelAck bits = whole-head (length (head CancelAck ++ bits)) _ (omega arith)
+unfolding read head
+read-head kind bits =
+    let action = digits 4 (actionType kind) in
+    let whole = (digits 6 ssType ++ action) ++ bits in
+    let ten : length (digits 6 ssType ++ action) ≡ 10 = simp (length-append, length-digits) in
+    let long : 10 ≤ length whole = simp (length-append, length-digits) (omega arith) in
+    let apart = append-assoc (digits 6 ssType) action bits in
+    let first : value (take 6 whole) ≡ ssType =
+    ap (λ l. value (take 6 l)) apart ∙ ap value (take-at (digits 6 ssType) (action ++ bits) 6 (length-digits 6 ssType)) ∙ value-digits 6 ssType (omega arith) in
+    let second : value (take 4 (drop 6 whole)) ≡ actionType kind =
+    ap (λ l. value (take 4 (drop 6 l))) apart
+    ∙ ap (λ l. value (take 4 l)) (drop-at (digits 6 ssType) (action ++ bits) 6 (length-digits 6 ssType))
+    ∙ ap value (take-at action bits 4 (length-digits 4 (actionType kind))) ∙ value-digits 4 (actionType kind) (action-fits kind) in
+    whole-head (length whole) _ long ∙ rw (eq-eqb _ _ first, eq-eqb _ _ second, drop-at (digits 6 ssType ++ action) bits 10 ten)
 
 -- ---- what is written is read
 pub read-write : (kind : Kind) (s : List ℕ) → T (valid kind s) → read kind (write kind s) ≡ frame (clean kind s)

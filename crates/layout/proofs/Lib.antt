@@ -1,4 +1,5 @@
 pub mod Tests
+pub mod EachKind
 pub mod RoundTrip
 pub mod Frames
 pub mod Says

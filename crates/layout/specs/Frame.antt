@@ -19,7 +19,7 @@ use Rattle.layout.specs.Row.{Row, all}
 use Rattle.layout.specs.Read.{Answer, frame, refused, readRows}
 use Rattle.layout.specs.Write.{Laid, lay, good, goodButGroup, vals, emit}
 use Rattle.layout.specs.Shape.{unrolled}
-use Rattle.layout.specs.Table.{tableOf, ssType, actionType}
+use Rattle.layout.specs.Kinds.{tableOf, ssType, actionType}
 
 -- the rows of a kind's table, after the head
 unfoldable pub rows : Kind → List Row

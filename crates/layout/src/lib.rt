@@ -129,3 +129,11 @@ pub struct CancelAckPlaces {
     pub defined_group: usize,
     pub result: usize,
 }
+
+// The places of every kind's record.
+pub struct KindPlaces {
+    pub define: DefinePlaces,
+    pub define_ack: DefineAckPlaces,
+    pub cancel: CancelPlaces,
+    pub cancel_ack: CancelAckPlaces,
+}

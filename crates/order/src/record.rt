@@ -7,6 +7,7 @@ use crate::values::one_down;
 use crate::values::optional;
 use crate::values::widened;
 use layout::PLACES;
+use table::place::define::*;
 use table::place::*;
 ghost use Prim.Native.Nat.{_+_, _<_};
 ghost use mathlib.Core.Path.{_≡_};

@@ -18,6 +18,7 @@ use rows::NAME_LENGTH;
 use rows::OWNER_COUNT;
 use rows::REFERENCE_WORD;
 use rows::lesser;
+use table::place::define::*;
 use table::place::*;
 ghost use Prim.Native.Nat.{_+_, _-_, _≤_, _<_};
 ghost use lib.ListN.{length, getD};

@@ -1,6 +1,6 @@
 // Single values of a record's places.
 use layout::PLACES;
-use table::place::O_BIT;
+use table::place::define::O_BIT;
 ghost use Prim.Native.Nat.{_-_, _<_};
 ghost use mathlib.Core.Path.{_≡_};
 ghost use Rattle.layout.specs.Frame.{places};

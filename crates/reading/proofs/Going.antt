@@ -20,9 +20,10 @@ use Rattle.reading.specs.declared.Step.the-variants.{Next, Refused}
 use Rattle.layout.specs.Row.{Row}
 use Rattle.layout.specs.Read.{frame, refused, readRows}
 use Rattle.layout.specs.Shape.{rowsOf, span, unrolled}
-use Rattle.layout.specs.Table.{tableOf, ssType, actionType}
+use Rattle.layout.specs.Kinds.{tableOf, ssType, actionType}
 use Rattle.layout.specs.Frame.{places, rows, read, readBytes, asReading, readingOf}
-use Rattle.table.specs.Lines.{firstLine, past, lineNumber, hangOf, shapeOf, placesOf}
+use Rattle.table.specs.Coding.{hangOf, shapeOf, placesOf}
+use Rattle.table.specs.Lines.{firstLine, past, lineNumber}
 use Rattle.table.specs.Sound.{Clear, sound}
 use Rattle.reading.specs.Reads.{whole, onward, Reads}
 use Rattle.reading.proofs.ReadLaws.{reading, whole-length}

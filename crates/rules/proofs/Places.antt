@@ -12,6 +12,7 @@ use Rattle.layout.specs.declared.Items.the-variants.{Numbers, Letters}
 use Rattle.layout.specs.Row.{Condition, is, atLeast, Row, all, nothing}
 use Rattle.layout.specs.Shape.{number, choice, least, rowsOf, repeated, span, spans, unrolled}
 use Rattle.layout.specs.Table.{define}
+use Rattle.layout.specs.Kinds.{tableOf}
 use Rattle.layout.specs.Write.{idle}
 use Rattle.layout.specs.Frame.{rows, places}
 use Rattle.rules.specs.Recorded.{callRelated, acknowledgementRequested, groupGiven, groupNumbers, optionsFollow, setReference, ownersIncluded}
@@ -28,7 +29,7 @@ pub places-held : T (all (λ (p : ℕ × ℕ). eqb (p .0) (p .1)) (
     ∷ (assignment, define .known .«assignment_given») ∷ (radioNumbers, define .known .radios)
     ∷ (acknowledgementRequested, define .known .«acknowledgement_given») ∷ (classOfUsage, define .known .«class_given»)
     ∷ (attachmentLifetime, define .known .«lifetime_given») ∷ (temporaryAssignment, define .known .«temporary_given») ∷ []))
-unfolding define span spans
+unfolding span spans
 places-held = tt
 
 abbrev pub table : List Row
@@ -38,7 +39,7 @@ abbrev pub rowAt : ℕ → Row
 rowAt k = getD table k nothing
 
 pub all-rows : length table ≡ places
-unfolding rows define unrolled rowsOf repeated span spans
+unfolding rows tableOf unrolled rowsOf repeated span spans
 all-rows = refl
 
 -- ---- an optional element: its P-bit at k, which hangs on the O-bit at 45, and its value behind it ----
@@ -59,43 +60,43 @@ pub record Optional (k : ℕ) (r : Row) : Type 0 where
   pub hangs : r .hang ≡ given k
 
 pub o-bit-at : rowAt optionsFollow ≡ number 1 []
-unfolding rows define unrolled rowsOf repeated span spans
+unfolding rows tableOf unrolled rowsOf repeated span spans
 o-bit-at = refl
 
 pub set-reference-at : Optional setReference (number 3 (given setReference))
-unfolding rows define unrolled rowsOf repeated span spans
+unfolding rows tableOf unrolled rowsOf repeated span spans
 set-reference-at = record { after = omega arith; within = omega arith; flag = refl; value = refl; carries = refl; hangs = refl }
 
 pub owners-included-at : Optional ownersIncluded (choice 1 2 (given ownersIncluded))
-unfolding rows define unrolled rowsOf repeated span spans
+unfolding rows tableOf unrolled rowsOf repeated span spans
 owners-included-at = record { after = omega arith; within = omega arith; flag = refl; value = refl; carries = refl; hangs = refl }
 
 pub acknowledged-call-at : Optional acknowledgedCall (choice 1 2 (given acknowledgedCall))
-unfolding rows define unrolled rowsOf repeated span spans
+unfolding rows tableOf unrolled rowsOf repeated span spans
 acknowledged-call-at = record { after = omega arith; within = omega arith; flag = refl; value = refl; carries = refl; hangs = refl }
 
 pub broadcast-at : Optional broadcast (choice 1 2 (given broadcast))
-unfolding rows define unrolled rowsOf repeated span spans
+unfolding rows tableOf unrolled rowsOf repeated span spans
 broadcast-at = record { after = omega arith; within = omega arith; flag = refl; value = refl; carries = refl; hangs = refl }
 
 pub letter-count-at : Optional letterCount (choice 4 16 (given letterCount))
-unfolding rows define unrolled rowsOf repeated span spans
+unfolding rows tableOf unrolled rowsOf repeated span spans
 letter-count-at = record { after = omega arith; within = omega arith; flag = refl; value = refl; carries = refl; hangs = refl }
 
 pub assignment-at : Optional assignment (choice 1 2 (given assignment))
-unfolding rows define unrolled rowsOf repeated span spans
+unfolding rows tableOf unrolled rowsOf repeated span spans
 assignment-at = record { after = omega arith; within = omega arith; flag = refl; value = refl; carries = refl; hangs = refl }
 
 pub class-of-usage-at : Optional classOfUsage (number 3 (given classOfUsage))
-unfolding rows define unrolled rowsOf repeated span spans
+unfolding rows tableOf unrolled rowsOf repeated span spans
 class-of-usage-at = record { after = omega arith; within = omega arith; flag = refl; value = refl; carries = refl; hangs = refl }
 
 pub attachment-lifetime-at : Optional attachmentLifetime (number 2 (given attachmentLifetime))
-unfolding rows define unrolled rowsOf repeated span spans
+unfolding rows tableOf unrolled rowsOf repeated span spans
 attachment-lifetime-at = record { after = omega arith; within = omega arith; flag = refl; value = refl; carries = refl; hangs = refl }
 
 pub temporary-assignment-at : Optional temporaryAssignment (number 3 (given temporaryAssignment))
-unfolding rows define unrolled rowsOf repeated span spans
+unfolding rows tableOf unrolled rowsOf repeated span spans
 temporary-assignment-at = record { after = omega arith; within = omega arith; flag = refl; value = refl; carries = refl; hangs = refl }
 
 -- ---- a list of items: its count at t, its items behind it ----
@@ -149,23 +150,23 @@ list-at t hang c d = record {
 }
 
 pub given-at : rowAt groupGiven ≡ choice 1 2 []
-unfolding rows define unrolled rowsOf repeated span spans
+unfolding rows tableOf unrolled rowsOf repeated span spans
 given-at = refl
 
 pub groups-at : ListAt groupNumbers (is groupGiven 1 ∷ [])
-unfolding rows define unrolled rowsOf repeated span spans
+unfolding rows tableOf unrolled rowsOf repeated span spans
 groups-at = list-at groupNumbers (is groupGiven 1 ∷ []) refl refl
 
 pub owners-at : ListAt ownerNumbers (said ownersIncluded)
-unfolding rows define unrolled rowsOf repeated span spans
+unfolding rows tableOf unrolled rowsOf repeated span spans
 owners-at = list-at ownerNumbers (said ownersIncluded) refl refl
 
 pub radios-at : ListAt radioNumbers (said assignment)
-unfolding rows define unrolled rowsOf repeated span spans
+unfolding rows tableOf unrolled rowsOf repeated span spans
 radios-at = list-at radioNumbers (said assignment) refl refl
 
 pub letter-at : (j : ℕ) → j < 16 → rowAt (letters + j) ≡ number 8 (atLeast (letterCount + 1) (j + 1) ∷ [])
-unfolding rows define unrolled rowsOf repeated span spans
+unfolding rows tableOf unrolled rowsOf repeated span spans
 letter-at j h =
     let d : drop letters table ≡ repeated Letters (letterCount + 1) letters 0 16 ++ drop assignment table = refl in
     let e : 0 + j + 1 ≡ j + 1 = omega arith in

@@ -6,6 +6,7 @@ use frame::Reading;
 use frame::Record;
 use frame::Verdict;
 use frame::Written;
+use frame::place::define::*;
 use frame::place::*;
 use refusal::number;
 ghost use Prim.Native.Nat.{_+_, _≤_, _<_};

@@ -18,7 +18,7 @@ use Rattle.layout.specs.declared.Items.the-variants.{Numbers, Letters}
 use Rattle.layout.specs.declared.Shape.{Shape}
 use Rattle.layout.specs.declared.Shape.the-variants.{Number, Choice, Identity, Ending, Missing, Nothing}
 use Rattle.layout.specs.declared.Shape.the-variants as shape
-use Rattle.table.specs.Lines.{outer, inner, place, byte, hangOf}
+use Rattle.table.specs.Coding.{outer, inner, place, byte, hangOf}
 use Rattle.table.specs.Sound.{Clear}
 use Rattle.table.proofs.TestLaws.{hang-tests}
 use Rattle.table.proofs.Walks.{Walk}

@@ -11,30 +11,25 @@ use lib.ListN.{length, take, drop, getD, List·getD-map}
 use lib.Seq.{drop-cons, getD-take, getD-drop}
 use Rattle.layout.specs.declared.Element.{Element}
 use Rattle.layout.specs.declared.Kind.{Kind}
-use Rattle.layout.specs.declared.Kind.the-variants.{Define, DefineAck, Cancel, CancelAck}
 use Rattle.layout.specs.declared.Shape.{Shape}
 use Rattle.layout.specs.Row.{Condition}
 use Rattle.layout.specs.Shape.{rowsOf, span, spans, conditionsOf, unrolled}
-use Rattle.layout.specs.Table.{define, defineAck, cancel, cancelAck, tableOf}
+use Rattle.layout.specs.Kinds.{tableOf}
 use Rattle.layout.specs.Frame.{places}
-use Rattle.table.specs.Lines.{lines, firstLine, past, whenNumber, shapeNumber, numberOf, lineNumber, hangOf, shapeOf, placesOf}
+use Rattle.table.specs.Coding.{whenNumber, shapeNumber, numberOf, hangOf, shapeOf, placesOf}
+use Rattle.table.specs.Lines.{lines, firstLine, endLine, past, lineNumber}
 use Rattle.table.specs.Sound.{sound, able}
 use Rattle.layout.proofs.Tests.{left, right}
+use Rattle.layout.proofs.EachKind.{every-test, every-same}
 
--- ---- the tests, computed once for each table
+-- ---- the tests, computed once over all kinds
 tables-able : (kind : Kind) → T (able (tableOf kind) 0)
-unfolding able sound define defineAck cancel cancelAck span spans
-tables-able Define = tt
-tables-able DefineAck = tt
-tables-able Cancel = tt
-tables-able CancelAck = tt
+unfolding able sound tableOf span spans
+tables-able = every-test (λ kind. able (tableOf kind) 0) tt
 
 tables-room : (kind : Kind) → T (leb (spans (tableOf kind)) places)
-unfolding define defineAck cancel cancelAck span spans
-tables-room Define = tt
-tables-room DefineAck = tt
-tables-room Cancel = tt
-tables-room CancelAck = tt
+unfolding tableOf span spans
+tables-room = every-test (λ kind. leb (spans (tableOf kind)) places) tt
 
 -- ---- a match over the numbers from 0 on: what no arm takes is behind them
 abbrev NoneOf : ℕ → ℕ → Type 0
@@ -63,7 +58,7 @@ ofElement e = (conditionsOf (e .0), e .1, span (e .1))
 
 -- computed once for all lines, and for what stands past the last
 all-said : map (λ (e : Element). ofNumber (numberOf e)) (past ∷ lines) ≡ map ofElement (past ∷ lines)
-unfolding hangOf shapeOf placesOf lines numberOf whenNumber shapeNumber define defineAck cancel cancelAck span spans
+unfolding hangOf shapeOf placesOf lines numberOf whenNumber shapeNumber tableOf span spans
 all-said = refl
 
 line-said : (k : ℕ) → ofNumber (lineNumber k) ≡ ofElement (getD lines k past)
@@ -73,13 +68,14 @@ line-said k =
     ∙ ap₂ (λ (l : List Parts) (d : Parts). getD l (suc k) d) all-said (ap (λ (l : List Parts). getD l 0 (ofElement past)) all-said)
     ∙ List·getD-map ofElement (past ∷ lines) (suc k) past
 
--- a kind's own lines stand from its first on
+-- a kind's own lines stand from its first to its end
 own-lines : (kind : Kind) → take (length (tableOf kind)) (drop (firstLine kind) lines) ≡ tableOf kind
-unfolding firstLine lines define defineAck cancel cancelAck span spans
-own-lines Define = refl
-own-lines DefineAck = refl
-own-lines Cancel = refl
-own-lines CancelAck = refl
+unfolding lines tableOf span spans
+own-lines = every-same (λ kind. take (length (tableOf kind)) (drop (firstLine kind) lines)) tableOf refl
+
+own-end : (kind : Kind) → endLine kind ≡ firstLine kind + length (tableOf kind)
+unfolding tableOf span spans
+own-end = every-same endLine (λ kind. firstLine kind + length (tableOf kind)) refl
 
 own-line : (kind : Kind) (j : ℕ) → j < length (tableOf kind) → getD lines (firstLine kind + j) past ≡ getD (tableOf kind) j past
 own-line kind j h =
@@ -98,6 +94,9 @@ said kind k j n e h d =
 pub record Own (kind : Kind) (begin end : ℕ) : Type 0 where
   pub begins : begin ≡ firstLine kind
   pub ends : end ≡ firstLine kind + length (tableOf kind)
+
+pub owns : (kind : Kind) {begin end : ℕ} → begin ≡ firstLine kind → end ≡ endLine kind → Own kind begin end
+owns kind b e = record { begins = b; ends = e ∙ own-end kind }
 
 -- ---- a walk over elements: k are passed, and the next begins at the place p
 pub record Placed (es : List Element) (p k : ℕ) : Type 0 where

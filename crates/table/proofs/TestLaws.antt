@@ -10,7 +10,7 @@ use lib.Dec.{eqb}
 use lib.ListN.{length, take, drop, getD, length-take, drop-of-length-le}
 use lib.Seq.{drop-cons, getD-take}
 use Rattle.layout.specs.Row.{Condition, holds, all, present}
-use Rattle.table.specs.Lines.{outer, inner, place, value, byte, hangOf}
+use Rattle.table.specs.Coding.{outer, inner, place, value, byte, hangOf}
 use Rattle.layout.proofs.Tests.{and-true, and-false, all-append}
 
 flip : (s t : Bool) → s && t ≡ t && s

@@ -24,24 +24,18 @@ use Rattle.table.proofs.lines.first_line.Kinds as first-line-kinds
 use Rattle.table.proofs.lines.first_line.Reads as first-line
 use Rattle.table.proofs.lines.end_line.Kinds as end-line-kinds
 use Rattle.table.proofs.lines.end_line.Reads as end-line
-use Rattle.table.proofs.lines.shape_of.Kinds as shape-of-kinds
-use Rattle.table.proofs.lines.shape_of.Reads as shape-of
-use Rattle.table.proofs.lines.places_of.Kinds as places-of-kinds
-use Rattle.table.proofs.lines.places_of.Reads as places-of
+use Rattle.table.proofs.coding.shape_of.Kinds as shape-of-kinds
+use Rattle.table.proofs.coding.shape_of.Reads as shape-of
+use Rattle.table.proofs.coding.places_of.Kinds as places-of-kinds
+use Rattle.table.proofs.coding.places_of.Reads as places-of
 use Rattle.table.proofs.lines.action_type.Kinds as action-type-kinds
 use Rattle.table.proofs.lines.action_type.Reads as action-type
-use Rattle.table.proofs.place.define_places.Kinds as define-places-kinds
-use Rattle.table.proofs.place.define_places.Reads as define-places
-use Rattle.table.proofs.place.define_ack_places.Kinds as define-ack-places-kinds
-use Rattle.table.proofs.place.define_ack_places.Reads as define-ack-places
-use Rattle.table.proofs.place.cancel_places.Kinds as cancel-places-kinds
-use Rattle.table.proofs.place.cancel_places.Reads as cancel-places
-use Rattle.table.proofs.place.cancel_ack_places.Kinds as cancel-ack-places-kinds
-use Rattle.table.proofs.place.cancel_ack_places.Reads as cancel-ack-places
+use Rattle.table.proofs.place.kind_places.Kinds as kind-places-kinds
+use Rattle.table.proofs.place.kind_places.Reads as kind-places
 use Rattle.table.proofs.tests.holds.Kinds as holds-kinds
 use Rattle.table.proofs.tests.holds.Reads as holds
-use Rattle.table.proofs.lines.there.Kinds as there-kinds
-use Rattle.table.proofs.lines.there.Reads as there
+use Rattle.table.proofs.coding.there.Kinds as there-kinds
+use Rattle.table.proofs.coding.there.Reads as there
 use Rattle.table.proofs.tests.nothing_since.Kinds as nothing-since-kinds
 use Rattle.table.proofs.tests.nothing_since.Reads as nothing-since
 
@@ -87,17 +81,8 @@ places-of-unique κs a r r′ s s′ p q = p ∙ sym q
 pub action-type-unique : Unique action-type-kinds.ps action-type-kinds.r action-type.Post
 action-type-unique κs a r r′ s s′ p q = p ∙ sym q
 
-pub define-places-unique : Unique define-places-kinds.ps define-places-kinds.r define-places.Post
-define-places-unique κs a r r′ s s′ p q = p ∙ sym q
-
-pub define-ack-places-unique : Unique define-ack-places-kinds.ps define-ack-places-kinds.r define-ack-places.Post
-define-ack-places-unique κs a r r′ s s′ p q = p ∙ sym q
-
-pub cancel-places-unique : Unique cancel-places-kinds.ps cancel-places-kinds.r cancel-places.Post
-cancel-places-unique κs a r r′ s s′ p q = p ∙ sym q
-
-pub cancel-ack-places-unique : Unique cancel-ack-places-kinds.ps cancel-ack-places-kinds.r cancel-ack-places.Post
-cancel-ack-places-unique κs a r r′ s s′ p q = p ∙ sym q
+pub kind-places-unique : Unique kind-places-kinds.ps kind-places-kinds.r kind-places.Post
+kind-places-unique κs a r r′ s s′ p q = p ∙ sym q
 
 pub holds-unique : Unique holds-kinds.ps holds-kinds.r holds.Post
 holds-unique κs a r r′ s s′ p q = p ∙ sym q

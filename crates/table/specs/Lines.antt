@@ -1,102 +1,40 @@
--- The lines of the tables as the code holds them: all tables one behind the other, and a line as one number.
+-- The lines of the tables as the code holds them: all tables one behind the other.
 -- Assumes nothing.
-use Prim.Native.Nat.{ℕ, _+_, _*_, _/_, _%_, _^_}
-use mathlib.Core.Bool.{cond}
+use Prim.Native.Nat.{ℕ}
 use mathlib.Core.List.{List, [], _∷_, _++_}
-use lib.Dec.{eqb}
-use lib.ListN.{length, getD}
+use lib.ListN.{getD}
 use Rattle.layout.specs.declared.Kind.{Kind}
 use Rattle.layout.specs.declared.Kind.the-variants.{Define, DefineAck, Cancel, CancelAck}
-use Rattle.layout.specs.declared.When.{When}
-use Rattle.layout.specs.declared.When.the-variants.{Always, Is, All}
-use Rattle.layout.specs.declared.Items.the-variants.{Numbers, Letters}
-use Rattle.layout.specs.declared.Shape.{Shape}
-use Rattle.layout.specs.declared.Shape.the-variants.{Number, Choice, Identity, Ending, Missing, Nothing}
-use Rattle.layout.specs.declared.Shape.the-variants as shape
+use Rattle.layout.specs.declared.When.the-variants.{Always}
+use Rattle.layout.specs.declared.Shape.the-variants.{Number}
 use Rattle.layout.specs.declared.Element.{Element}
-use Rattle.layout.specs.Row.{Condition, is}
-use Rattle.layout.specs.Shape.{span}
-use Rattle.layout.specs.Table.{tableOf}
+use Rattle.layout.specs.Kinds.{kinds, tableOf}
+use Rattle.table.specs.Coding.{numberOf}
 
--- all tables, one behind the other
+-- the tables of these kinds, one behind the other
+abbrev pub tables : List Kind → List Element
+tables [] = []
+tables (kind ∷ more) = tableOf kind ++ tables more
+
 unfoldable pub lines : List Element
-lines = tableOf Define ++ tableOf DefineAck ++ tableOf Cancel ++ tableOf CancelAck
+lines = tables kinds
 
--- where a kind's table begins
-unfoldable pub firstLine : Kind → ℕ
+-- where a kind's table begins, and the line behind its last
+abbrev pub firstLine : Kind → ℕ
 firstLine Define = 0
-firstLine DefineAck = length (tableOf Define)
-firstLine Cancel = length (tableOf Define ++ tableOf DefineAck)
-firstLine CancelAck = length (tableOf Define ++ tableOf DefineAck ++ tableOf Cancel)
+firstLine DefineAck = 30
+firstLine Cancel = 37
+firstLine CancelAck = 41
+
+abbrev pub endLine : Kind → ℕ
+endLine Define = 30
+endLine DefineAck = 37
+endLine Cancel = 41
+endLine CancelAck = 45
 
 -- what stands past the last line
 abbrev pub past : Element
 past = record { 0 = Always; 1 = Number 0 }
 
--- ---- a line as one number: what the bytes are, from the lowest on
--- a place and the value that it holds, 0 where there is no condition; the outer and the inner place of a chain, which hold 1
-abbrev pub place : ℕ
-place = 1
-
-abbrev pub value : ℕ
-value = 256
-
-abbrev pub outer : ℕ
-outer = 256 ^ 2
-
-abbrev pub inner : ℕ
-inner = 256 ^ 3
-
--- the shape, and its two numbers; the places that the element takes
-abbrev pub shaped : ℕ
-shaped = 256 ^ 4
-
-abbrev pub first : ℕ
-first = 256 ^ 5
-
-abbrev pub second : ℕ
-second = 256 ^ 6
-
-abbrev pub taken : ℕ
-taken = 256 ^ 7
-
-abbrev pub byte : ℕ → ℕ → ℕ
-byte n unit = n / unit % 256
-
-unfoldable pub whenNumber : When → ℕ
-whenNumber Always = 0
-whenNumber (Is q v) = q * place + v * value
-whenNumber (All a b q v) = q * place + v * value + a * outer + b * inner
-
-unfoldable pub shapeNumber : Shape → ℕ
-shapeNumber (Number w) = w * first
-shapeNumber (Choice w n) = shaped + w * first + n * second
-shapeNumber Identity = 2 * shaped
-shapeNumber (shape.List Numbers) = 3 * shaped
-shapeNumber (shape.List Letters) = 4 * shaped
-shapeNumber Ending = 5 * shaped
-shapeNumber (Missing q) = 6 * shaped + q * first
-shapeNumber (Nothing o) = 7 * shaped + o * first
-
-unfoldable pub numberOf : Element → ℕ
-numberOf e = whenNumber (e .0) + shapeNumber (e .1) + span (e .1) * taken
-
 unfoldable pub lineNumber : ℕ → ℕ
 lineNumber k = numberOf (getD lines k past)
-
--- ---- and back
--- the conditions that a line's number says, outermost first
-unfoldable pub hangOf : ℕ → List Condition
-hangOf n =
-    cond (eqb (byte n outer) 0) [] (is (byte n outer) 1 ∷ is (byte n inner) 1 ∷ [])
-    ++ cond (eqb (byte n value) 0) [] (is (byte n place) (byte n value) ∷ [])
-
--- the shape, by its number; its two numbers are a and b
-abbrev pub shapes : ℕ → ℕ → List Shape
-shapes a b = Number a ∷ Choice a b ∷ Identity ∷ shape.List Numbers ∷ shape.List Letters ∷ Ending ∷ Missing a ∷ []
-
-unfoldable pub shapeOf : ℕ → Shape
-shapeOf n = getD (shapes (byte n first) (byte n second)) (byte n shaped) (Nothing (byte n first))
-
-unfoldable pub placesOf : ℕ → ℕ
-placesOf n = n / taken

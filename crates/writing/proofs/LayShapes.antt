@@ -22,7 +22,7 @@ use Rattle.layout.specs.Shape.{refuse, No, codesOf, rowsOf, span}
 use Rattle.layout.specs.Write.{Laid, held, lay, good, goodButGroup, vals, emit}
 use Rattle.layout.specs.Frame.{places}
 use Rattle.layout.proofs.Tests.{both-true}
-use Rattle.table.specs.Lines.{hangOf, shapeOf}
+use Rattle.table.specs.Coding.{hangOf, shapeOf}
 use Rattle.table.specs.Sound.{Clear, sound}
 use Rattle.table.proofs.ShapeLaws.{span-some}
 use Rattle.table.proofs.Walks.{clear-later}

@@ -16,13 +16,14 @@ use Rattle.layout.specs.declared.Shape.the-variants.{Number, Choice, Identity, 
 use Rattle.layout.specs.declared.Shape.the-variants as shape
 use Rattle.layout.specs.Row.{Row, all, present}
 use Rattle.layout.specs.Shape.{rowsOf, span, conditionsOf, unrolled}
-use Rattle.layout.specs.Table.{tableOf}
+use Rattle.layout.specs.Kinds.{tableOf}
 use Rattle.layout.specs.Frame.{rows, places, headBits, laid, clean}
 use Rattle.layout.specs.Write.{Laid, lay, good, goodButGroup, vals, emit}
 use Rattle.layout.specs.Chain.{looks, earlier, chained, chainedFrom, bound, bounded}
 use Rattle.layout.proofs.Tests.{left, right, and-true, and-false, all-append, all-weaker}
 use Rattle.layout.proofs.Chains.{tables-chained, tables-bounded, chain-first, looks-agree, missing-agrees}
-use Rattle.table.specs.Lines.{firstLine, past, lineNumber, hangOf, shapeOf, placesOf}
+use Rattle.table.specs.Coding.{hangOf, shapeOf, placesOf}
+use Rattle.table.specs.Lines.{firstLine, past, lineNumber}
 use Rattle.table.specs.Sound.{Clear, sound}
 use Rattle.table.proofs.Absent.{length-shape}
 use Rattle.table.proofs.Walks.{clear-none, clear-later}

@@ -26,7 +26,7 @@ use Rattle.layout.specs.declared.Written.{Written}
 use Rattle.layout.specs.declared.Written.the-variants as written
 use Rattle.layout.specs.Row.{all}
 use Rattle.layout.specs.Write.{good, goodButGroup, emit}
-use Rattle.layout.specs.Table.{ssType, actionType}
+use Rattle.layout.specs.Kinds.{ssType, actionType}
 use Rattle.layout.proofs.Tests.{told}
 use Rattle.layout.specs.Frame.{head, headBits, laid, valid, write, judgedOf, writtenOf, outputOf}
 use Rattle.writing.specs.Lay.{Over}

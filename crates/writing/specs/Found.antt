@@ -21,7 +21,7 @@ use Rattle.layout.specs.Row.{Row, all, present}
 use Rattle.layout.specs.Shape.{No}
 use Rattle.layout.specs.Frame.{places}
 use Rattle.layout.specs.Write.{Laid, lay, good, goodButGroup}
-use Rattle.table.specs.Lines.{hangOf, shapeOf}
+use Rattle.table.specs.Coding.{hangOf, shapeOf}
 use Rattle.table.specs.Sound.{Clear}
 use Rattle.writing.specs.Lay.{Finds, Lies, Ends}
 

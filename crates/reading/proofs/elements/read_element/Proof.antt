@@ -2,7 +2,7 @@
 -- Assumes nothing.
 use mathlib.Core.Path.{sym, _∙_}
 use native.Mathlib.Omega.{arith}
-use Rattle.table.specs.Lines.{hangOf, shapeOf}
+use Rattle.table.specs.Coding.{hangOf, shapeOf}
 use Rattle.table.proofs.Absent.{present-hang, shut-element, passes, length-shape}
 use Rattle.reading.specs.Reads.{whole}
 use Rattle.reading.proofs.ReadLaws.{reading}

@@ -7,8 +7,8 @@ use lib.ListN.{length}
 use Rattle.layout.specs.declared.Kind.{Kind}
 use Rattle.layout.specs.Frame.{places, asReading}
 use Rattle.layout.specs.Shape.{span}
-use Rattle.table.specs.Lines.{shapeOf}
-use Rattle.table.proofs.TableLaws.{Own}
+use Rattle.table.specs.Coding.{shapeOf}
+use Rattle.table.proofs.TableLaws.{Own, owns}
 use Rattle.reading.specs.Reads.{whole}
 use Rattle.reading.proofs.ReadLaws.{whole-length}
 use Rattle.reading.proofs.Going.{Going, going-none, turn-room, turn-sound, turn-span, turn-next, turn-stop, going-over, going-end}
@@ -25,7 +25,7 @@ abbrev μ-loop : tie.MeasureT-loop
 
 -- the lines that the loop goes over are the kind's
 own : (c : tie.After-first-line Inv-loop μ-loop) → Own (c .before .before .before .args .kind) (c .first-line .result) (c .before .end-line .result)
-own c = record { begins = c .first-line .ensures; ends = c .before .end-line .ensures }
+own c = owns _ (c .first-line .ensures) (c .before .end-line .ensures)
 
 -- what the invariant says of the kind
 going : (c : tie.At-loop Inv-loop μ-loop) → let a = c .before .before .before .before .args in

@@ -1,9 +1,9 @@
--- `table::lines::places_of` meets its contract.
+-- `table::coding::places_of` meets its contract.
 -- Assumes nothing.
 use mathlib.Core.Path.{refl}
-use Rattle.table.specs.Lines.{placesOf}
-use Rattle.table.proofs.lines.places_of.Statement.{statement}
-use Rattle.table.proofs.lines.places_of.Tie as tie
+use Rattle.table.specs.Coding.{placesOf}
+use Rattle.table.proofs.coding.places_of.Statement.{statement}
+use Rattle.table.proofs.coding.places_of.Tie as tie
 
 returns : tie.Need-returns
 unfolding placesOf

@@ -1,14 +1,14 @@
--- `table::lines::shape_of` meets its contract: each arm's shape is the one of its number, and what no arm takes is the last.
+-- `table::coding::shape_of` meets its contract: each arm's shape is the one of its number, and what no arm takes is the last.
 -- Assumes nothing.
 use Prim.Native.Nat.{ℕ}
 use mathlib.Core.Path.{_≡_, refl, sym, _∙_}
 use lib.ListN.{getD, List·getD-eq-default}
 use Rattle.layout.specs.declared.Shape.the-variants.{Nothing}
-use Rattle.table.specs.Lines.{shapes, shapeOf}
+use Rattle.table.specs.Coding.{shapes, shapeOf}
 use Rattle.table.proofs.TableLaws.{none-of}
 use borrow.Author.Needs.{needs}
-use Rattle.table.proofs.lines.shape_of.Statement.{statement}
-use Rattle.table.proofs.lines.shape_of.Tie as tie
+use Rattle.table.proofs.coding.shape_of.Statement.{statement}
+use Rattle.table.proofs.coding.shape_of.Tie as tie
 
 -- by the number of the shape
 at-shape : (c : tie.After-byte3) {i : ℕ} → c .byte3 .result ≡ i

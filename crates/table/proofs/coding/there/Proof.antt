@@ -1,10 +1,10 @@
--- `table::lines::there` meets its contract: the line's own condition, and where it holds its chain.
+-- `table::coding::there` meets its contract: the line's own condition, and where it holds its chain.
 -- Assumes nothing.
 use Rattle.layout.proofs.Tests.{and-true, and-false}
 use Rattle.table.proofs.TestLaws.{own, chain, hang-tests}
 use borrow.Author.Needs.{needs}
-use Rattle.table.proofs.lines.there.Statement.{statement}
-use Rattle.table.proofs.lines.there.Tie as tie
+use Rattle.table.proofs.coding.there.Statement.{statement}
+use Rattle.table.proofs.coding.there.Tie as tie
 
 byte-requires : tie.Need-byte-requires
 byte-requires c κs = search needs

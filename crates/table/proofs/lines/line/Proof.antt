@@ -4,8 +4,9 @@ use Prim.Native.Nat.{ℕ}
 use mathlib.Core.Path.{_≡_, sym, ap}
 use lib.ListN.{List·getD-eq-default}
 use Rattle.layout.specs.Shape.{span, spans}
-use Rattle.layout.specs.Table.{define, defineAck, cancel, cancelAck}
-use Rattle.table.specs.Lines.{lines, past, whenNumber, shapeNumber, numberOf, lineNumber}
+use Rattle.layout.specs.Kinds.{tableOf}
+use Rattle.table.specs.Coding.{whenNumber, shapeNumber, numberOf}
+use Rattle.table.specs.Lines.{lines, past, lineNumber}
 use Rattle.table.proofs.TableLaws.{none-of}
 use Rattle.table.proofs.lines.line.Statement.{statement}
 use Rattle.table.proofs.lines.line.Tie as tie
@@ -14,11 +15,11 @@ at-line : {k i : ℕ} → k ≡ i → lineNumber i ≡ lineNumber k
 at-line e = sym (ap lineNumber e)
 
 behind : tie.Need-returns-46
-unfolding lineNumber lines numberOf whenNumber shapeNumber define defineAck cancel cancelAck span spans
+unfolding lineNumber lines numberOf whenNumber shapeNumber tableOf span spans
 behind c = sym (ap numberOf (List·getD-eq-default lines past (none-of 45 (c .before .args .k) (c .match .rest))))
 
 pub line-spec : {M : Type 1} → statement M
-unfolding lineNumber lines numberOf whenNumber shapeNumber define defineAck cancel cancelAck span spans
+unfolding lineNumber lines numberOf whenNumber shapeNumber tableOf span spans
 line-spec =
     tie.close
     (tie.spec

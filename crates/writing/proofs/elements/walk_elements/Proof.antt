@@ -3,7 +3,7 @@
 use Prim.Native.Nat.{_-_}
 use native.Mathlib.Omega.{arith}
 use Rattle.layout.specs.declared.Kind.{Kind}
-use Rattle.table.proofs.TableLaws.{Own}
+use Rattle.table.proofs.TableLaws.{Own, owns}
 use Rattle.writing.proofs.WholeRecord.{Wrote, wrote-none, wrote-bits, wrote-group}
 use Rattle.writing.proofs.WholeRecord.{turn-room, turn-ready, turn-empty, turn-held, turn-missing, turn-bad}
 use borrow.Author.Needs.{needs}
@@ -19,7 +19,7 @@ abbrev μ-loop : tie.MeasureT-loop
 
 -- the lines that the loop goes over are the kind's
 own : (c : tie.After-first-line Inv-loop μ-loop) → Own (c .before .before .before .args .kind) (c .first-line .result) (c .before .end-line .result)
-own c = record { begins = c .first-line .ensures; ends = c .before .end-line .ensures }
+own c = owns _ (c .first-line .ensures) (c .before .end-line .ensures)
 
 -- what the invariant says of the kind
 wrote : (c : tie.At-loop Inv-loop μ-loop) → let a = c .before .before .before .before .args in let l = c .loop in

@@ -1,0 +1,33 @@
+-- The kinds of frame: the table of each, and its head.
+-- Assumes nothing.
+use Prim.Native.Nat.{ℕ}
+use mathlib.Core.List.{List, [], _∷_}
+use Rattle.layout.specs.declared.Kind.{Kind}
+use Rattle.layout.specs.declared.Kind.the-variants.{Define, DefineAck, Cancel, CancelAck}
+use Rattle.layout.specs.declared.Element.{Element}
+use Rattle.layout.specs.declared.KindPlaces.{KindPlaces}
+use Rattle.layout.specs.Table.{define, defineAck, cancel, cancelAck}
+
+-- every kind, once
+abbrev pub kinds : List Kind
+kinds = Define ∷ DefineAck ∷ Cancel ∷ CancelAck ∷ []
+
+unfoldable pub tableOf : Kind → List Element
+tableOf Define = define .elements
+tableOf DefineAck = defineAck .elements
+tableOf Cancel = cancel .elements
+tableOf CancelAck = cancelAck .elements
+
+-- the places of each, under their names
+unfoldable pub kindPlaces : KindPlaces
+kindPlaces = record { define = define .known; «define_ack» = defineAck .known; cancel = cancel .known; «cancel_ack» = cancelAck .known }
+
+-- ---- the head: SS-Type, and the action type of clause 6.6
+abbrev pub ssType : ℕ
+ssType = 0b010100
+
+abbrev pub actionType : Kind → ℕ
+actionType Define = 0b0011
+actionType DefineAck = 0b0011
+actionType Cancel = 0b0110
+actionType CancelAck = 0b0110
