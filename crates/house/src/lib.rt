@@ -44,10 +44,16 @@ fn kind_number(kind: Kind) -> u8
     ensures { λ r. ⌜ r ≡ kindNumber kind ⌝ }
 {
     match kind {
-        Kind::Define => 1,
-        Kind::DefineAck => 2,
-        Kind::Cancel => 3,
-        Kind::CancelAck => 4,
+        Kind::Define => 0x01,
+        Kind::DefineAck => 0x02,
+        Kind::Cancel => 0x03,
+        Kind::CancelAck => 0x04,
+        Kind::Assign => 0x05,
+        Kind::AssigningAck => 0x06,
+        Kind::Deassign => 0x07,
+        Kind::DeassigningAck => 0x08,
+        Kind::Delete => 0x0C,
+        Kind::DeleteAck => 0x0D,
     }
 }
 
@@ -56,10 +62,16 @@ fn named_kind(number: u8, bits: usize) -> Line
     ensures { λ r. ⌜ r ≡ named kinds number bits ⌝ }
 {
     match number {
-        1 => Line::Frame(Kind::Define, bits),
-        2 => Line::Frame(Kind::DefineAck, bits),
-        3 => Line::Frame(Kind::Cancel, bits),
-        4 => Line::Frame(Kind::CancelAck, bits),
+        0x01 => Line::Frame(Kind::Define, bits),
+        0x02 => Line::Frame(Kind::DefineAck, bits),
+        0x03 => Line::Frame(Kind::Cancel, bits),
+        0x04 => Line::Frame(Kind::CancelAck, bits),
+        0x05 => Line::Frame(Kind::Assign, bits),
+        0x06 => Line::Frame(Kind::AssigningAck, bits),
+        0x07 => Line::Frame(Kind::Deassign, bits),
+        0x08 => Line::Frame(Kind::DeassigningAck, bits),
+        0x0C => Line::Frame(Kind::Delete, bits),
+        0x0D => Line::Frame(Kind::DeleteAck, bits),
         _ => Line::Bad,
     }
 }

@@ -5,7 +5,7 @@ use mathlib.Core.Bool.{Bool}
 use mathlib.Core.List.{List, [], _∷_, map}
 use lib.Dec.{T}
 use Rattle.layout.specs.declared.Kind.{Kind}
-use Rattle.layout.specs.declared.Kind.the-variants.{Define, DefineAck, Cancel, CancelAck}
+use Rattle.layout.specs.declared.Kind.the-variants.{Define, DefineAck, Cancel, CancelAck, Assign, AssigningAck, Deassign, DeassigningAck, Delete, DeleteAck}
 use Rattle.layout.specs.Row.{all}
 use Rattle.layout.specs.Kinds.{kinds}
 use Rattle.layout.proofs.Tests.{left, right}
@@ -20,6 +20,12 @@ every P t Define = t .0
 every P t DefineAck = t .1 .0
 every P t Cancel = t .1 .1 .0
 every P t CancelAck = t .1 .1 .1 .0
+every P t Assign = t .1 .1 .1 .1 .0
+every P t AssigningAck = t .1 .1 .1 .1 .1 .0
+every P t Deassign = t .1 .1 .1 .1 .1 .1 .0
+every P t DeassigningAck = t .1 .1 .1 .1 .1 .1 .1 .0
+every P t Delete = t .1 .1 .1 .1 .1 .1 .1 .1 .0
+every P t DeleteAck = t .1 .1 .1 .1 .1 .1 .1 .1 .1 .0
 
 -- a test that all kinds pass
 pub every-test : (p : Kind → Bool) → T (all p kinds) → (kind : Kind) → T (p kind)

@@ -71,6 +71,10 @@ choice width codes = element (Choice width codes)
 abbrev pub yesNo : When → Placed ℕ
 yesNo = choice 1 2
 
+-- acknowledgement requested: 0; 1 is reserved
+abbrev pub requested : When → Placed ℕ
+requested = choice 1 1
+
 abbrev pub identity : When → Placed ℕ
 identity = element Identity
 

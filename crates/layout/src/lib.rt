@@ -10,6 +10,12 @@ pub enum Kind {
     DefineAck,
     Cancel,
     CancelAck,
+    Assign,
+    AssigningAck,
+    Deassign,
+    DeassigningAck,
+    Delete,
+    DeleteAck,
 }
 
 // When an element is there: always, where a place holds a value, or by a chain of conditions, outermost first.
@@ -130,10 +136,79 @@ pub struct CancelAckPlaces {
     pub result: usize,
 }
 
+// Those of an ASSIGN record (table 23).
+pub struct AssignPlaces {
+    pub groups: usize,
+    pub o_bit: usize,
+    pub acknowledged_call_given: usize,
+    pub acknowledged_call: usize,
+    pub broadcast_given: usize,
+    pub broadcast: usize,
+    pub name_given: usize,
+    pub name: usize,
+    pub acknowledgement_given: usize,
+    pub acknowledgement: usize,
+    pub class_given: usize,
+    pub class: usize,
+    pub lifetime_given: usize,
+    pub lifetime: usize,
+    pub temporary_given: usize,
+    pub temporary: usize,
+    pub visited_extension_given: usize,
+    pub visited_extension: usize,
+}
+
+// Those of an ASSIGNING-ACK record (table 24).
+pub struct AssigningAckPlaces {
+    pub groups: usize,
+    pub result: usize,
+    pub o_bit: usize,
+    pub attachment_given: usize,
+    pub attachment: usize,
+}
+
+// Those of a DEASSIGN record (table 25).
+pub struct DeassignPlaces {
+    pub groups: usize,
+    pub o_bit: usize,
+    pub acknowledgement_given: usize,
+    pub acknowledgement: usize,
+}
+
+// Those of a DEASSIGNING-ACK record (table 26).
+pub struct DeassigningAckPlaces {
+    pub groups: usize,
+    pub result: usize,
+}
+
+// Those of a DELETE record (table 21).
+pub struct DeletePlaces {
+    pub groups: usize,
+    pub deleted: usize,
+    pub removed: usize,
+    pub o_bit: usize,
+    pub radios: usize,
+    pub acknowledgement_given: usize,
+    pub acknowledgement: usize,
+}
+
+// Those of a DELETE-ACK record (table 22).
+pub struct DeleteAckPlaces {
+    pub groups: usize,
+    pub result: usize,
+    pub o_bit: usize,
+}
+
 // The places of every kind's record.
 pub struct KindPlaces {
     pub define: DefinePlaces,
     pub define_ack: DefineAckPlaces,
     pub cancel: CancelPlaces,
     pub cancel_ack: CancelAckPlaces,
+    pub assign: AssignPlaces,
+    pub assigning_ack: AssigningAckPlaces,
+    pub deassign: DeassignPlaces,
+    pub deassigning_ack: DeassigningAckPlaces,
+    pub delete: DeletePlaces,
+    pub delete_ack: DeleteAckPlaces,
 }

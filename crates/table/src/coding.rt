@@ -52,6 +52,8 @@ pub const NUMBER_4: u64 = 4 * FIRST + TAKES;
 
 pub const NUMBER_14: u64 = 14 * FIRST + TAKES;
 
+pub const NUMBER_24: u64 = 24 * FIRST + TAKES;
+
 const CHOICE: u64 = SHAPE + TAKES;
 
 pub const YES_NO: u64 = CHOICE + FIRST + 2 * SECOND;

@@ -1,8 +1,13 @@
 // The tables of document 000, one line an element, after SS-Type and action type. All tables stand in one list, and a line is one number.
 // Numbers that a `match` gives stay among the program's constants; an array, even a constant one, is laid out on the stack wherever it is used.
+mod assign;
+mod assigning_ack;
 mod cancel;
+mod deassign;
 mod define;
 mod define_ack;
+mod delete;
+mod delete_ack;
 
 use crate::coding::*;
 use layout::Kind;
@@ -64,7 +69,62 @@ pub fn line(k: u8) -> u64
         42 => cancel::CALL_LINE,
         43 => cancel::GROUP_LINE,
         44 => BIT,
-        45..=255 => PAST,
+        // Table 23.
+        45 => NUMBERS,
+        46 => BIT,
+        47 => assign::P_BIT,
+        48 => assign::ACKNOWLEDGED_CALL_LINE,
+        49 => assign::P_BIT,
+        50 => assign::BROADCAST_LINE,
+        51 => assign::P_BIT,
+        52 => assign::NAME_LINE,
+        53 => assign::P_BIT,
+        54 => assign::ACKNOWLEDGEMENT_LINE,
+        55 => assign::P_BIT,
+        56 => assign::CLASS_LINE,
+        57 => assign::P_BIT,
+        58 => assign::LIFETIME_LINE,
+        59 => assign::P_BIT,
+        60 => assign::TEMPORARY_LINE,
+        61 => assign::P_BIT,
+        62 => assign::VISITED_EXTENSION_LINE,
+        63 => assign::M_BIT,
+        64 => assign::NOTHING_LINE,
+        // Table 24.
+        65 => NUMBERS,
+        66 => NUMBER_2,
+        67 => BIT,
+        68 => assigning_ack::P_BIT,
+        69 => assigning_ack::ATTACHMENT_LINE,
+        70 => assigning_ack::M_BIT,
+        71 => assigning_ack::NOTHING_LINE,
+        // Table 25.
+        72 => NUMBERS,
+        73 => BIT,
+        74 => deassign::P_BIT,
+        75 => deassign::ACKNOWLEDGEMENT_LINE,
+        76 => deassign::M_BIT,
+        77 => deassign::NOTHING_LINE,
+        // Table 26.
+        78 => NUMBERS,
+        79 => NUMBER_4,
+        // Table 21.
+        80 => NUMBERS,
+        81 => YES_NO,
+        82 => YES_NO,
+        83 => BIT,
+        84 => delete::RADIOS_LINE,
+        85 => delete::P_BIT,
+        86 => delete::ACKNOWLEDGEMENT_LINE,
+        87 => delete::M_BIT,
+        88 => delete::NOTHING_LINE,
+        // Table 22.
+        89 => NUMBERS,
+        90 => NUMBER_4,
+        91 => BIT,
+        92 => delete_ack::M_BIT,
+        93 => delete_ack::NOTHING_LINE,
+        94..=255 => PAST,
     }
 }
 
@@ -77,6 +137,12 @@ pub fn first_line(kind: Kind) -> u8
         Kind::DefineAck => 30,
         Kind::Cancel => 37,
         Kind::CancelAck => 41,
+        Kind::Assign => 45,
+        Kind::AssigningAck => 65,
+        Kind::Deassign => 72,
+        Kind::DeassigningAck => 78,
+        Kind::Delete => 80,
+        Kind::DeleteAck => 89,
     }
 }
 
@@ -89,6 +155,12 @@ pub fn end_line(kind: Kind) -> u8
         Kind::DefineAck => 37,
         Kind::Cancel => 41,
         Kind::CancelAck => 45,
+        Kind::Assign => 65,
+        Kind::AssigningAck => 72,
+        Kind::Deassign => 78,
+        Kind::DeassigningAck => 80,
+        Kind::Delete => 89,
+        Kind::DeleteAck => 94,
     }
 }
 
@@ -110,5 +182,11 @@ pub fn action_type(kind: Kind) -> u32
         Kind::DefineAck => 0b0011,
         Kind::Cancel => 0b0110,
         Kind::CancelAck => 0b0110,
+        Kind::Assign => 0b0001,
+        Kind::AssigningAck => 0b0001,
+        Kind::Deassign => 0b0010,
+        Kind::DeassigningAck => 0b0010,
+        Kind::Delete => 0b1010,
+        Kind::DeleteAck => 0b1010,
     }
 }

@@ -2,10 +2,16 @@
 // Options are left out, whatever their places hold, unless the O-bit's place is 1.
 // A choice holds its code and 1 more: YES and NO; a plain number holds its code. What is not there holds 0.
 // Each kind has a file; `kind_places` holds every name to its table: it gives the places that the table's own definition has under that name.
+pub mod assign;
+pub mod assigning_ack;
 pub mod cancel;
 pub mod cancel_ack;
+pub mod deassign;
+pub mod deassigning_ack;
 pub mod define;
 pub mod define_ack;
+pub mod delete;
+pub mod delete_ack;
 
 use layout::KindPlaces;
 ghost use mathlib.Core.Path.{_≡_};
@@ -45,5 +51,11 @@ pub fn kind_places() -> KindPlaces
         define_ack: define_ack::NAMES,
         cancel: cancel::NAMES,
         cancel_ack: cancel_ack::NAMES,
+        assign: assign::NAMES,
+        assigning_ack: assigning_ack::NAMES,
+        deassign: deassign::NAMES,
+        deassigning_ack: deassigning_ack::NAMES,
+        delete: delete::NAMES,
+        delete_ack: delete_ack::NAMES,
     }
 }

@@ -1,0 +1,20 @@
+// The lines of DELETE, table 21, that hang on another.
+use crate::coding::*;
+use crate::place::delete::*;
+
+const O: u64 = O_BIT as u64;
+
+const OPTION: u64 = O * PLACE + IS_ONE;
+
+const AFTER: u64 = O * CHAIN + IS_ONE;
+
+// The users hang on "removed", with no P-bit of their own.
+pub const RADIOS_LINE: u64 = NUMBERS + O * CHAIN + REMOVED as u64 * PLACE + IS_YES;
+
+pub const P_BIT: u64 = BIT + OPTION;
+
+pub const ACKNOWLEDGEMENT_LINE: u64 = REQUESTED + AFTER + ACKNOWLEDGEMENT_GIVEN as u64 * PLACE;
+
+pub const M_BIT: u64 = ENDING + OPTION;
+
+pub const NOTHING_LINE: u64 = NOTHING + O * FIRST + OPTION;
