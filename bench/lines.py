@@ -1,14 +1,12 @@
 #!/usr/bin/env python3
 """House text for tests and for the benchmark, and what the echo program has to say to it.
-  lines.py COUNT [SEED]          COUNT lines: frames of all four kinds, composed at random from the tables, some of them damaged
+  lines.py COUNT [SEED]          COUNT lines: frames of all ten kinds, composed at random from the tables, some of them damaged
   lines.py --good COUNT [SEED]   whole frames alone
   lines.py --replies < LINES     the reply to each line, by a decoder of its own"""
 import random
 import sys
 
 SS_TYPE = 0b010100
-DEFINE, DEFINE_ACK, CANCEL, CANCEL_ACK = 1, 2, 3, 4
-ACTION = {DEFINE: 0b0011, DEFINE_ACK: 0b0011, CANCEL: 0b0110, CANCEL_ACK: 0b0110}
 LONGEST = 432  # digits of a line
 
 
@@ -64,68 +62,139 @@ def numbers(frame):
         identity(frame)
 
 
-def ending(frame, options):
+def options(frame, *elements, there=0):
+    """What follows O-bit 1: each element behind its P-bit, then the M-bit. `there` elements came before, without P-bits."""
+    for element in elements:
+        if frame.take(1) == 1:
+            there += 1
+            element(frame)
     if frame.take(1, chosen=[0]) == 1:
         frame.refuse(7)
-    if not options:
+    if not there:
         frame.refuse(6)
 
 
-def define(frame, related):
-    given = frame.take(1) == 0
-    if given:
-        numbers(frame)
-    elif not related:
-        frame.refuse(5)
+def field(width):
+    return lambda frame: frame.take(width)
+
+
+def listed(frame):
+    """A bit, and numbers where it is 0."""
     if frame.take(1) == 0:
-        return
-    options = 0
-    for element in (
-        lambda: frame.take(3),                                              # set reference
-        lambda: frame.take(1) == 0 and numbers(frame),                      # owners included
-        lambda: frame.take(1),                                              # acknowledged call
-        lambda: frame.take(1),                                              # broadcast
-        lambda: [frame.take(8) for _ in range(frame.take(4) + 1)],          # name
-        lambda: frame.take(1) == 0 and numbers(frame),                      # assignment indication
-        lambda: frame.take(1, [0]),                                         # acknowledgement requested
-        lambda: frame.take(3),                                              # class of usage
-        lambda: frame.take(2),                                              # attachment lifetime
-        lambda: frame.take(3),                                              # temporary assignment
-    ):
-        if frame.take(1) == 1:
-            options += 1
-            element()
-    ending(frame, options)
-
-
-def body(frame, kind):
-    """All that follows the head of a frame of that kind."""
-    related = frame.take(1) == 0
-    if related:
-        frame.take(14)
-    if kind == DEFINE:
-        define(frame, related)
-    elif kind == DEFINE_ACK:
         numbers(frame)
-        frame.take(4)
-        if frame.take(1, chosen=[0]) == 1:
-            ending(frame, 0)
-    else:
-        if not related:
-            identity(frame)
-        if kind == CANCEL:
-            identity(frame)
-        else:
-            frame.take(1)
+
+
+def name(frame):
+    for _ in range(frame.take(4) + 1):
+        frame.take(8)
+
+
+def requested(frame):
+    frame.take(1, [0])
+
+
+def related(frame):
+    """Call related, and the call identifier if it is."""
+    call = frame.take(1) == 0
+    if call:
+        frame.take(14)
+    return call
+
+
+def define(frame):
+    call = related(frame)
+    if frame.take(1) == 0:
+        numbers(frame)
+    elif not call:
+        frame.refuse(5)
+    if frame.take(1) == 1:
+        # set reference, owners, acknowledged call, broadcast, name, assignment, acknowledgement requested, class, lifetime, temporary
+        options(frame, field(3), listed, field(1), field(1), name, listed, requested, field(3), field(2), field(3))
+
+
+def acknowledged(frame):
+    """Numbers, a result of 4 bits, and an O-bit that nothing can follow."""
+    numbers(frame)
+    frame.take(4)
+    if frame.take(1, chosen=[0]) == 1:
+        options(frame)
+
+
+def define_ack(frame):
+    related(frame)
+    acknowledged(frame)
+
+
+def cancel(frame):
+    if not related(frame):
+        identity(frame)
+    identity(frame)
+
+
+def cancel_ack(frame):
+    if not related(frame):
+        identity(frame)
+    frame.take(1)
+
+
+def assign(frame):
+    numbers(frame)
+    if frame.take(1) == 1:
+        # acknowledged call, broadcast, name, acknowledgement requested, class, lifetime, temporary, visited system extension
+        options(frame, field(1), field(1), name, requested, field(3), field(2), field(3), field(24))
+
+
+def assigning_ack(frame):
+    numbers(frame)
+    frame.take(2)
+    if frame.take(1) == 1:
+        options(frame, field(1))  # attachment or detachment
+
+
+def deassign(frame):
+    numbers(frame)
+    if frame.take(1) == 1:
+        options(frame, requested)
+
+
+def deassigning_ack(frame):
+    numbers(frame)
+    frame.take(4)
+
+
+def delete(frame):
+    numbers(frame)
+    frame.take(1)
+    removed = frame.take(1) == 0
+    if frame.take(1) == 1:
+        if removed:
+            numbers(frame)
+        options(frame, requested, there=removed)
+
+
+# House kind: action type, and all that follows the head.
+KINDS = {
+    0x01: (0b0011, define),
+    0x02: (0b0011, define_ack),
+    0x03: (0b0110, cancel),
+    0x04: (0b0110, cancel_ack),
+    0x05: (0b0001, assign),
+    0x06: (0b0001, assigning_ack),
+    0x07: (0b0010, deassign),
+    0x08: (0b0010, deassigning_ack),
+    0x0C: (0b1010, delete),
+    0x0D: (0b1010, acknowledged),
+}
 
 
 def read(kind, bits):
     """Refuses a run of bits that is no frame of that kind."""
     frame = Reading(bits)
+    action, body = KINDS[kind]
     head = frame.take(6), frame.take(4)
-    if head != (SS_TYPE, ACTION[kind]):
+    if head != (SS_TYPE, action):
         frame.refuse(3)
-    body(frame, kind)
+    body(frame)
     if frame.at < len(bits):
         frame.refuse(2)
 
@@ -136,7 +205,7 @@ def reply(line):
     if not 6 <= len(text) <= LONGEST or any(c not in "0123456789ABCDEF" for c in text):
         return "R9"
     kind, count = int(text[:2], 16), int(text[2:6], 16)
-    if kind not in ACTION or len(text) != 6 + 2 * ((count + 7) // 8):
+    if kind not in KINDS or len(text) != 6 + 2 * ((count + 7) // 8):
         return "R9"
     bits = "".join(format(int(c, 16), "04b") for c in text[6:])[:count]
     try:
@@ -152,14 +221,19 @@ def line_of(kind, bits):
     return f"{kind:02X}{len(bits):04X}" + "".join(f"{int(spare[k:k + 8], 2):02X}" for k in range(0, 8 * size, 8))
 
 
+# What is composed: two in eleven a DEFINE.
+MIX = [0x01, *KINDS]
+
+
 def compose(rng):
-    """A frame, two in five a DEFINE: its kind and its bits. Choices that make no frame are made again."""
+    """A frame: its kind and its bits. Choices that make no frame are made again."""
     while True:
-        kind = rng.choice([DEFINE, DEFINE, DEFINE_ACK, CANCEL, CANCEL_ACK])
+        kind = rng.choice(MIX)
+        action, body = KINDS[kind]
         frame = Composing(rng)
-        frame.bits = format(SS_TYPE, "06b") + format(ACTION[kind], "04b")
+        frame.bits = format(SS_TYPE, "06b") + format(action, "04b")
         try:
-            body(frame, kind)
+            body(frame)
         except Refused:
             continue
         return kind, frame.bits
@@ -179,7 +253,7 @@ def extra(rng, kind, bits):
 
 
 def other_kind(rng, kind, bits):
-    return line_of(rng.choice([0, 1, 2, 3, 4, 5, 13, 255]), bits)
+    return line_of(rng.choice([*range(16), 255]), bits)
 
 
 def spare_bits(rng, kind, bits):
