@@ -8,7 +8,7 @@ use native.Mathlib.Nat.{add-zero, min-le-left, mul-suc}
 use native.Mathlib.Omega.{arith}
 use native.Mathlib.Decide.{decLt}
 use borrow.Author.Tests.{lt-leb, ne-eqb}
-use lib.Dec.{ltb}
+use lib.Dec.{ltb, eqb}
 use lib.ListN.{length, take, getD, length-append, length-take, List·getD-eq-default}
 use lib.Seq.{getD-take}
 use Rattle.layout.specs.Row.{Row, Condition, is, atLeast, nothingSince, holds, all, present}
@@ -18,9 +18,8 @@ use Rattle.layout.specs.declared.Items.the-variants.{Numbers, Letters}
 use Rattle.layout.specs.declared.Shape.{Shape}
 use Rattle.layout.specs.declared.Shape.the-variants.{Number, Choice, Identity, Ending, Missing, Nothing}
 use Rattle.layout.specs.declared.Shape.the-variants as shape
-use Rattle.table.specs.Coding.{outer, inner, place, byte, hangOf}
+use Rattle.table.specs.Coding.{outer, inner, place, value, byte, hangOf}
 use Rattle.table.specs.Sound.{Clear}
-use Rattle.table.proofs.TestLaws.{hang-tests}
 use Rattle.table.proofs.Walks.{Walk}
 use Rattle.layout.proofs.Tests.{and-false}
 
@@ -146,9 +145,20 @@ length-shape (Nothing o) hang p = refl
 
 -- a line's conditions look at the record so far; what holds of the whole, holds of it
 pub present-hang : (n : ℕ) (vs : List ℕ) (p : ℕ) → Clear vs p → present (take p vs) (hangOf n) ≡ present vs (hangOf n)
-present-hang n vs p z =
-    hang-tests (take p vs) n
-    ∙ rw (getD-clear vs p (byte n inner) z, getD-clear vs p (byte n outer) z, getD-clear vs p (byte n place) z) (sym (hang-tests vs n))
+unfolding hangOf present
+present-hang n vs p z = go (eqb (byte n outer) 0) (eqb (byte n value) 0)
+  where
+    chain : List Condition
+    chain = is (byte n outer) 1 ∷ is (byte n inner) 1 ∷ []
+
+    own : List Condition
+    own = is (byte n place) (byte n value) ∷ []
+
+    go : (a b : Bool) → all (holds (take p vs)) (cond a [] chain ++ cond b [] own) ≡ all (holds vs) (cond a [] chain ++ cond b [] own)
+    go true true = refl
+    go true false = rw (getD-clear vs p (byte n place) z)
+    go false true = rw (getD-clear vs p (byte n inner) z, getD-clear vs p (byte n outer) z)
+    go false false = rw (getD-clear vs p (byte n inner) z, getD-clear vs p (byte n outer) z, getD-clear vs p (byte n place) z)
 
 pub shut-element : (n : ℕ) (s : Shape) (p : ℕ) (vs : List ℕ) → present vs (hangOf n) ≡ false → Clear vs p → Shut vs p (rowsOf s (hangOf n) p)
 shut-element n s p vs e z = shut-shape vs p z s (hangOf n) (λ m l. present-hang n vs m (λ q h. z q (omega arith)) ∙ e)

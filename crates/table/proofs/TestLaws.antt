@@ -1,38 +1,40 @@
 -- What is asked of a record on the way: a line's conditions, as they are tested; places that hold 0, one after the other.
 -- Assumes nothing.
 use Prim.Native.Nat.{ℕ, _+_, _≤_, _<_, min}
-use mathlib.Core.Path.{_≡_, refl, sym}
-use mathlib.Core.Bool.{Bool, true, false, cond, _&&_, _||_}
-use mathlib.Core.List.{List, []}
+use mathlib.Core.Path.{_≡_, _∙_}
+use mathlib.Core.Bool.{true, _&&_}
+use mathlib.Core.List.{List}
 use native.Mathlib.Numerals.{add-one}
 use native.Mathlib.Omega.{arith}
+use borrow.Author.Tests.{ne-eqb}
 use lib.Dec.{eqb}
 use lib.ListN.{length, take, drop, getD, length-take, drop-of-length-le}
 use lib.Seq.{drop-cons, getD-take}
-use Rattle.layout.specs.Row.{Condition, holds, all, present}
-use Rattle.table.specs.Coding.{outer, inner, place, value, byte, hangOf}
-use Rattle.layout.proofs.Tests.{and-true, and-false, all-append}
+use Rattle.layout.specs.Row.{holds, all, present}
+use Rattle.table.specs.Coding.{outer, inner, place, value, byte, chainOf, ownOf, hangOf}
+use Rattle.layout.proofs.Tests.{and-true, all-append}
 
-flip : (s t : Bool) → s && t ≡ t && s
-flip true t = sym (and-true t)
-flip false t = sym (and-false t)
-
--- ---- the conditions of a line: its own, and its chain from the inside
+-- ---- the conditions of a line: its chain, and its own
 module _ (vs : List ℕ) (n : ℕ) where
-  abbrev pub own : Bool
-  own = eqb (byte n value) 0 || eqb (getD vs (byte n place) 0) (byte n value)
+  pub no-chain : byte n outer ≡ 0 → present vs (chainOf n) ≡ true
+  unfolding present
+  no-chain e = rw e
 
-  abbrev pub chain : Bool
-  chain = eqb (byte n outer) 0 || (eqb (getD vs (byte n inner) 0) 1 && eqb (getD vs (byte n outer) 0) 1)
+  pub two-hold : (byte n outer ≡ 0 → ⊥) → present vs (chainOf n) ≡ eqb (getD vs (byte n outer) 0) 1 && eqb (getD vs (byte n inner) 0) 1
+  unfolding present
+  two-hold some = rw (ne-eqb _ _ some, and-true)
 
-  -- conditions that may be none
-  unless : (none : Bool) (hang : List Condition) → all (holds vs) (cond none [] hang) ≡ none || all (holds vs) hang
-  unless true hang = refl
-  unless false hang = refl
-
-  pub hang-tests : present vs (hangOf n) ≡ chain && own
+  hang-apart : present vs (hangOf n) ≡ present vs (chainOf n) && present vs (ownOf n)
   unfolding hangOf present
-  hang-tests = simp (all-append (holds vs), unless, and-true) (rw (flip (eqb (getD vs (byte n outer) 0) 1)))
+  hang-apart = all-append (holds vs) (chainOf n) (ownOf n)
+
+  pub no-own : byte n value ≡ 0 → present vs (hangOf n) ≡ present vs (chainOf n)
+  unfolding present
+  no-own e = hang-apart ∙ rw (e, and-true)
+
+  pub own-holds : (byte n value ≡ 0 → ⊥) → present vs (hangOf n) ≡ present vs (chainOf n) && eqb (getD vs (byte n place) 0) (byte n value)
+  unfolding present
+  own-holds some = hang-apart ∙ rw (ne-eqb _ _ some, and-true)
 
 -- ---- places that hold 0
 module _ (vs : List ℕ) (to i : ℕ) where

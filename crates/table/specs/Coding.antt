@@ -64,11 +64,15 @@ unfoldable pub numberOf : Element → ℕ
 numberOf e = whenNumber (e .0) + shapeNumber (e .1) + span (e .1) * taken
 
 -- ---- and back
--- the conditions that a line's number says, outermost first
+-- the chain that a line's number says, outermost first, and the condition of its own
+abbrev pub chainOf : ℕ → List Condition
+chainOf n = cond (eqb (byte n outer) 0) [] (is (byte n outer) 1 ∷ is (byte n inner) 1 ∷ [])
+
+abbrev pub ownOf : ℕ → List Condition
+ownOf n = cond (eqb (byte n value) 0) [] (is (byte n place) (byte n value) ∷ [])
+
 unfoldable pub hangOf : ℕ → List Condition
-hangOf n =
-    cond (eqb (byte n outer) 0) [] (is (byte n outer) 1 ∷ is (byte n inner) 1 ∷ [])
-    ++ cond (eqb (byte n value) 0) [] (is (byte n place) (byte n value) ∷ [])
+hangOf n = chainOf n ++ ownOf n
 
 -- the shape, by its number; its two numbers are a and b
 abbrev pub shapes : ℕ → ℕ → List Shape

@@ -10,7 +10,7 @@ use layout::Shape;
 ghost use mathlib.Core.Path.{_≡_};
 ghost use Prim.Native.Nat.{_/_, _%_, _<_};
 ghost use Rattle.layout.specs.Row.{present};
-ghost use Rattle.table.specs.Coding.{hangOf, shapeOf, placesOf};
+ghost use Rattle.table.specs.Coding.{chainOf, hangOf, shapeOf, placesOf};
 
 // The bytes of a line's number, from the lowest on. The element is there where PLACE holds VALUE, or always, where VALUE is 0;
 // in a chain OUTER and INNER hold 1 besides. It has a shape, the shape's two numbers, and takes so many places.
@@ -83,15 +83,28 @@ fn byte(line: u64, unit: u64) -> u8
     (line / unit % 256) as u8
 }
 
+// Whether both places of a line's chain hold 1, if it has one.
+fn chain_holds(values: &[u32], line: u64) -> bool
+    ensures { λ r. ⌜ r ≡ present (now (values .entry)) (chainOf line) ⌝ }
+{
+    let outer = byte(line, OUTER);
+    if outer == 0 {
+        true
+    } else {
+        holds(values, outer, 1) & holds(values, byte(line, INNER), 1)
+    }
+}
+
 // Whether a line's element is there. What it looks for itself is tested before its chain: where an element is not there, it is mostly that which fails.
-// No test skips another by the line alone: the compiler would take the list of lines apart into as many branches.
 pub fn there(values: &[u32], line: u64) -> bool
     ensures { λ r. ⌜ r ≡ present (now (values .entry)) (hangOf line) ⌝ }
 {
     let value = byte(line, VALUE);
-    let outer = byte(line, OUTER);
-    if (value == 0) | holds(values, byte(line, PLACE), value) {
-        (outer == 0) | (holds(values, byte(line, INNER), 1) & holds(values, outer, 1))
+    if value == 0 {
+        return chain_holds(values, line);
+    }
+    if holds(values, byte(line, PLACE), value) {
+        chain_holds(values, line)
     } else {
         false
     }
