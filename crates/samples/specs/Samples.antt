@@ -1,4 +1,4 @@
--- The samples of document 01 that are proved, in one table, and what it is that each of them passes.
+-- The samples that are proved, in one table, and what it is that each of them passes: document 01's starred ones, and two of each frame of P1.
 -- Assumes nothing.
 use Prim.Native.Nat.{ℕ, zero, suc, _-_}
 use mathlib.Core.Bool.{Bool, true, false, _&&_}
@@ -8,7 +8,7 @@ use lib.Dec.{eqb}
 use lib.ListN.{length, replicate}
 use Rattle.refusal.specs.Number.{numberOf}
 use Rattle.layout.specs.declared.Kind.{Kind}
-use Rattle.layout.specs.declared.Kind.the-variants.{Define, DefineAck, Cancel, CancelAck}
+use Rattle.layout.specs.declared.Kind.the-variants.{Define, DefineAck, Cancel, CancelAck, Assign, AssigningAck, Deassign, DeassigningAck, Delete, DeleteAck}
 use Rattle.layout.specs.declared.Verdict.{Verdict}
 use Rattle.layout.specs.declared.Verdict.the-variants as verdict
 use Rattle.layout.specs.declared.Written.{Written}
@@ -38,9 +38,15 @@ sna n = 1 ∷ n ∷ 0 ∷ 0 ∷ []
 abbrev ssi : ℕ → List ℕ
 ssi n = 2 ∷ 0 ∷ n ∷ 0 ∷ []
 
--- a list of one identity: its number type, and room for ten
+abbrev extended : ℕ → ℕ → List ℕ
+extended n e = 3 ∷ 0 ∷ n ∷ e ∷ []
+
+-- a list: its number type, held one up, and room for ten identities
+abbrev listed : ℕ → List ℕ → List ℕ
+listed type identities = suc type ∷ identities ++ replicate (40 - length identities) 0
+
 abbrev one : List ℕ → List ℕ
-one identity = 1 ∷ identity ++ replicate 36 0
+one identity = listed 0 identity
 
 -- a DEFINE record up to its O-bit: no call, one group
 abbrev group : ℕ → List ℕ
@@ -86,6 +92,31 @@ samples =
     -- no bits; more bits than bytes
     ∷ refused Define 0 (0x50 ∷ 0xE0 ∷ 0x40 ∷ 0x00 ∷ 0x00 ∷ 0x40 ∷ []) 1
     ∷ refused Define 49 (0x50 ∷ 0xE0 ∷ 0x40 ∷ 0x00 ∷ 0x00 ∷ 0x40 ∷ []) 1
+    -- ASSIGN: SNA 7, no options; SSI 5, and SSI 6 with extension 7, acknowledged call, name AB, class 6
+    ∷ taken Assign 25 (0x50 ∷ 0x40 ∷ 0x07 ∷ 0x00 ∷ []) (one (sna 7))
+    ∷ taken Assign 124 (0x50 ∷ 0x49 ∷ 0x00 ∷ 0x00 ∷ 0x05 ∷ 0x80 ∷ 0x00 ∷ 0x01 ∷ 0x80 ∷ 0x00 ∷ 0x01 ∷ 0xF2 ∷ 0x28 ∷ 0x28 ∷ 0x4E ∷ 0x00 ∷ [])
+    (listed 2 (ssi 5 ++ extended 6 7) ++ (1 ∷ 1 ∷ Yes ∷ 0 ∷ 0 ∷ 1 ∷ 2 ∷ 0x41 ∷ 0x42 ∷ replicate 14 0 ++ (0 ∷ 0 ∷ 1 ∷ 6 ∷ [])))
+    -- ASSIGNING-ACK: SNA 7, accepted; the range SSI 100 to 109, database overflow, detachment
+    ∷ taken AssigningAck 27 (0x50 ∷ 0x40 ∷ 0x07 ∷ 0x00 ∷ []) (one (sna 7))
+    ∷ taken AssigningAck 72 (0x50 ∷ 0x45 ∷ 0x00 ∷ 0x00 ∷ 0x64 ∷ 0x40 ∷ 0x00 ∷ 0x1B ∷ 0x7E ∷ []) (listed 1 (ssi 100 ++ ssi 109) ++ (3 ∷ 1 ∷ 1 ∷ No ∷ []))
+    -- DEASSIGN: SNA 7; SNA 1, SSI 2, and SSI 3 with extension 4, acknowledgement requested
+    ∷ taken Deassign 25 (0x50 ∷ 0x80 ∷ 0x07 ∷ 0x00 ∷ []) (one (sna 7))
+    ∷ taken Deassign 104 (0x50 ∷ 0x8C ∷ 0x01 ∷ 0x40 ∷ 0x00 ∷ 0x00 ∷ 0xA0 ∷ 0x00 ∷ 0x00 ∷ 0x30 ∷ 0x00 ∷ 0x00 ∷ 0x4C ∷ [])
+    (listed 3 (sna 1 ++ ssi 2 ++ extended 3 4) ++ (1 ∷ 1 ∷ Yes ∷ []))
+    -- DEASSIGNING-ACK: SNA 7, result 0; SSI 5 and SSI 6, result 5; with a bit more, as an O-bit would be
+    ∷ taken DeassigningAck 28 (0x50 ∷ 0x80 ∷ 0x07 ∷ 0x00 ∷ []) (one (sna 7))
+    ∷ taken DeassigningAck 70 (0x50 ∷ 0x89 ∷ 0x00 ∷ 0x00 ∷ 0x05 ∷ 0x40 ∷ 0x00 ∷ 0x01 ∷ 0x94 ∷ []) (listed 2 (ssi 5 ++ ssi 6) ++ (5 ∷ []))
+    ∷ refused DeassigningAck 29 (0x50 ∷ 0x80 ∷ 0x07 ∷ 0x00 ∷ []) 2
+    -- DELETE: SNA 7, deleted, not removed; SSI 5, not deleted, removed from SSI 9, acknowledgement requested; the same with a P-bit before the list
+    ∷ taken Delete 27 (0x52 ∷ 0x80 ∷ 0x07 ∷ 0x40 ∷ []) (one (sna 7) ++ (Yes ∷ No ∷ []))
+    ∷ taken Delete 76 (0x52 ∷ 0x81 ∷ 0x00 ∷ 0x00 ∷ 0x05 ∷ 0xA0 ∷ 0x80 ∷ 0x00 ∷ 0x04 ∷ 0xC0 ∷ [])
+    (one (ssi 5) ++ (No ∷ Yes ∷ 1 ∷ one (ssi 9) ++ (1 ∷ Yes ∷ [])))
+    ∷ refused Delete 77 (0x52 ∷ 0x81 ∷ 0x00 ∷ 0x00 ∷ 0x05 ∷ 0xB0 ∷ 0x40 ∷ 0x00 ∷ 0x02 ∷ 0x60 ∷ []) 1
+    -- DELETE-ACK: SNA 7, result 0; SSI 5, and SSI 6 with extension 7, result 1; O-bit 1 and nothing after it
+    ∷ taken DeleteAck 29 (0x52 ∷ 0x80 ∷ 0x07 ∷ 0x00 ∷ []) (one (sna 7))
+    ∷ taken DeleteAck 95 (0x52 ∷ 0x89 ∷ 0x00 ∷ 0x00 ∷ 0x05 ∷ 0x80 ∷ 0x00 ∷ 0x01 ∷ 0x80 ∷ 0x00 ∷ 0x01 ∷ 0xC4 ∷ [])
+    (listed 2 (ssi 5 ++ extended 6 7) ++ (1 ∷ []))
+    ∷ refused DeleteAck 30 (0x52 ∷ 0x80 ∷ 0x07 ∷ 0x08 ∷ []) 6
     -- answer after 29 ticks and after 30: both accepted
     ∷ ordered (ticks 29 (start then assigns)) confirms 0 ((9, 2) ∷ [])
     ∷ ordered (ticks 30 (start then assigns)) confirms 0 ((9, 2) ∷ [])

@@ -1,27 +1,21 @@
--- `samples::same` meets its contract: it looks within the records. The measure is what is left of the places.
+-- `samples::held::same_bytes` meets its contract: it looks within the buffers. The measure is what is left of them.
 -- Assumes nothing.
 use Prim.Native.Nat.{_≤_, _-_}
 use borrow.Author.Needs.{needs}
-use Rattle.samples.proofs.same.Statement.{statement}
-use Rattle.samples.proofs.same.Tie as tie
+use Rattle.samples.proofs.held.same_bytes.Statement.{statement}
+use Rattle.samples.proofs.held.same_bytes.Tie as tie
 
 abbrev Inv-loop : tie.InvT-loop
-Inv-loop a b i₀ i = i ≤ 166
+Inv-loop a b i₀ i = i ≤ 256
 
 abbrev μ-loop : tie.MeasureT-loop
-μ-loop a b i₀ i = 166 - i
+μ-loop a b i₀ i = 256 - i
 
 loop-holds : tie.Need-loop-holds Inv-loop μ-loop
 loop-holds c = search needs
 
-mul-if1 : tie.Need-mul-if1 Inv-loop μ-loop
-mul-if1 c = search needs
-
 element-copy-out-if1 : tie.Need-element-copy-out-if1 Inv-loop μ-loop
 element-copy-out-if1 c = search needs
-
-mul-if1-2 : tie.Need-mul-if1-2 Inv-loop μ-loop
-mul-if1-2 c = search needs
 
 element-copy-out-if1-2 : tie.Need-element-copy-out-if1-2 Inv-loop μ-loop
 element-copy-out-if1-2 c = search needs
@@ -41,16 +35,14 @@ loop-again c = search needs
 returns-2 : tie.Need-returns-2 Inv-loop μ-loop
 returns-2 c = search needs
 
-pub same-spec : {M : Type 1} → statement M
-same-spec =
+pub same-bytes-spec : {M : Type 1} → statement M
+same-bytes-spec =
     tie.close
     (tie.spec
     Inv-loop
     μ-loop
     loop-holds
-    mul-if1
     element-copy-out-if1
-    mul-if1-2
     element-copy-out-if1-2
     returns
     add-i

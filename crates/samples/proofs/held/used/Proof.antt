@@ -1,10 +1,10 @@
--- `samples::used` meets its contract: it looks within the slice. The measure is what is left of it.
+-- `samples::held::used` meets its contract: it looks within the slice. The measure is what is left of it.
 -- Assumes nothing.
 use Prim.Native.Nat.{_≤_}
 use lib.ListN.{length}
 use borrow.Author.Needs.{needs}
-use Rattle.samples.proofs.used.Statement.{statement}
-use Rattle.samples.proofs.used.Tie as tie
+use Rattle.samples.proofs.held.used.Statement.{statement}
+use Rattle.samples.proofs.held.used.Tie as tie
 
 abbrev Inv-loop : tie.InvT-loop
 Inv-loop out n₀ n = n ≤ length out

@@ -1,18 +1,24 @@
--- `samples::letters` meets its contract: its places are within the record. The measure is what is left of the letters.
+-- `samples::records::name` meets its contract: its places are within the record. The measure is what is left of the letters.
 -- Assumes nothing.
 use Prim.Native.Nat.{_≤_, _-_}
 use borrow.Author.Needs.{needs}
-use Rattle.samples.proofs.letters.Statement.{statement}
-use Rattle.samples.proofs.letters.Tie as tie
+use Rattle.samples.proofs.records.name.Statement.{statement}
+use Rattle.samples.proofs.records.name.Tie as tie
 
 abbrev Inv-loop : tie.InvT-loop
-Inv-loop r₀ i₀ r i = i ≤ 113
+Inv-loop place r₀ i₀ i-end r i = i-end ≤ 166
 
 abbrev μ-loop : tie.MeasureT-loop
-μ-loop r₀ i₀ r i = 113 - i
+μ-loop place r₀ i₀ i-end r i = i-end - i
+
+option-requires : tie.Need-option-requires Inv-loop μ-loop
+option-requires c κs = search needs
 
 add-i : tie.Need-add-i Inv-loop μ-loop
 add-i c = search needs
+
+add-i-end : tie.Need-add-i-end Inv-loop μ-loop
+add-i-end c = search needs
 
 loop-holds : tie.Need-loop-holds Inv-loop μ-loop
 loop-holds c = search needs
@@ -38,13 +44,15 @@ loop-again c = search needs
 returns : tie.Need-returns Inv-loop μ-loop
 returns c = search needs
 
-pub letters-spec : {M : Type 1} → statement M
-letters-spec =
+pub name-spec : {M : Type 1} → statement M
+name-spec =
     tie.close
     (tie.spec
     Inv-loop
     μ-loop
+    option-requires
     add-i
+    add-i-end
     loop-holds
     cast-r
     mul-r
