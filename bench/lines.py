@@ -7,6 +7,7 @@ import random
 import sys
 
 SS_TYPE = 0b010100
+DEFINE = 0x01
 LONGEST = 432  # digits of a line
 
 
@@ -174,7 +175,7 @@ def delete(frame):
 
 # House kind: action type, and all that follows the head.
 KINDS = {
-    0x01: (0b0011, define),
+    DEFINE: (0b0011, define),
     0x02: (0b0011, define_ack),
     0x03: (0b0110, cancel),
     0x04: (0b0110, cancel_ack),
@@ -222,7 +223,7 @@ def line_of(kind, bits):
 
 
 # What is composed: two in eleven a DEFINE.
-MIX = [0x01, *KINDS]
+MIX = [DEFINE, *KINDS]
 
 
 def compose(rng):

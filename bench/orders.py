@@ -10,7 +10,7 @@ import itertools
 import re
 import sys
 
-from lines import ACTION, DEFINE, SS_TYPE, line_of
+from lines import DEFINE, KINDS, SS_TYPE, line_of
 
 ASKER, FIRST, GROUPS, ROOM = 100, 1000, 320, 128
 
@@ -27,7 +27,7 @@ def numbers(values):
 
 def define(groups, radios, acknowledged):
     """O-bit 1, five options left out, the assignment, the acknowledgement where it is asked for, three more left out, no type 3."""
-    bits = f"{SS_TYPE:06b}{ACTION[DEFINE]:04b}" + "1" + "0" + numbers(groups) + "1" + "00000" + "10" + numbers(radios)
+    bits = f"{SS_TYPE:06b}{KINDS[DEFINE][0]:04b}" + "1" + "0" + numbers(groups) + "1" + "00000" + "10" + numbers(radios)
     bits += ("10" if acknowledged else "0") + "000" + "0"
     return f"D {number(ASKER)} {ROOM:04X} {line_of(DEFINE, bits)}"
 

@@ -1,4 +1,4 @@
-// The frames of SS-DGNA: DEFINE, DEFINE-ACK, CANCEL and CANCEL-ACK, read from bits and written as bits.
+// The frames of SS-DGNA, ten kinds of them, read from bits and written as bits.
 pub use layout::Judged;
 pub use layout::Kind;
 pub use layout::PLACES;
