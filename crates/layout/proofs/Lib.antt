@@ -4,3 +4,4 @@ pub mod RoundTrip
 pub mod Frames
 pub mod Says
 pub mod Chains
+pub mod Readings
