@@ -19,11 +19,11 @@ use Rattle.layout.specs.Write.{Laid, idle, held, lay, good, vals, emit}
 use Rattle.layout.proofs.Tests.{left, right, both}
 
 -- ---- one row
-record Good (r : Row) (v : ℕ) : Type 0 where
-  low : r .first ≤ v
-  high : v < r .first + r .codes
+pub record Good (r : Row) (v : ℕ) : Type 0 where
+  pub low : r .first ≤ v
+  pub high : v < r .first + r .codes
 
-good→ : (r : Row) (v : ℕ) → T (good (record { row = r; val = v })) → Good r v
+pub good→ : (r : Row) (v : ℕ) → T (good (record { row = r; val = v })) → Good r v
 good→ r v g =
     record {
       low = leb→le _ _ (left (leb (r .first) v) (ltb v (r .first + r .codes)) g);
