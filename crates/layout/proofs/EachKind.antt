@@ -5,7 +5,8 @@ use mathlib.Core.Bool.{Bool}
 use mathlib.Core.List.{List, [], _∷_, map}
 use lib.Dec.{T}
 use Rattle.layout.specs.declared.Kind.{Kind}
-use Rattle.layout.specs.declared.Kind.the-variants.{Define, DefineAck, Cancel, CancelAck, Assign, AssigningAck, Deassign, DeassigningAck, Delete, DeleteAck}
+use Rattle.layout.specs.declared.Kind.the-variants.{Define, DefineAck, Cancel, CancelAck}
+use Rattle.layout.specs.declared.Kind.the-variants.{Assign, AssigningAck, Deassign, DeassigningAck, Delete, DeleteAck}
 use Rattle.layout.specs.Row.{all}
 use Rattle.layout.specs.Kinds.{kinds}
 use Rattle.layout.proofs.Tests.{left, right}

@@ -3,7 +3,8 @@
 use Prim.Native.Nat.{ℕ}
 use mathlib.Core.List.{List, [], _∷_}
 use Rattle.layout.specs.declared.Kind.{Kind}
-use Rattle.layout.specs.declared.Kind.the-variants.{Define, DefineAck, Cancel, CancelAck, Assign, AssigningAck, Deassign, DeassigningAck, Delete, DeleteAck}
+use Rattle.layout.specs.declared.Kind.the-variants.{Define, DefineAck, Cancel, CancelAck}
+use Rattle.layout.specs.declared.Kind.the-variants.{Assign, AssigningAck, Deassign, DeassigningAck, Delete, DeleteAck}
 use Rattle.layout.specs.declared.Element.{Element}
 use Rattle.layout.specs.declared.KindPlaces.{KindPlaces}
 use Rattle.layout.specs.Table.{define, defineAck, cancel, cancelAck, assign, assigningAck, deassign, deassigningAck, delete, deleteAck}
