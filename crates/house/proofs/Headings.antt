@@ -46,17 +46,17 @@ module _ (line : List ℕ) where
   all-good h l = simp (h, le-leb _ _ l)
 
 -- a number that is none of these kinds', as a match over their numbers tells it, which begins with what is told before
-abbrev NoneOf : Type 0 → List Kind → ℕ → Type 0
-NoneOf before [] number = before
-NoneOf before (kind ∷ known) number = NoneOf (before × (number ≡ kindNumber kind → ⊥)) known number
+abbrev NoKind : Type 0 → List Kind → ℕ → Type 0
+NoKind before [] number = before
+NoKind before (kind ∷ known) number = NoKind (before × (number ≡ kindNumber kind → ⊥)) known number
 
-unnamed : (before : Type 0) (known : List Kind) (number bits : ℕ) → NoneOf before known number → (Bad ≡ named known number bits) × before
+unnamed : (before : Type 0) (known : List Kind) (number bits : ℕ) → NoKind before known number → (Bad ≡ named known number bits) × before
 unnamed before [] number bits none = (refl, none)
 unnamed before (kind ∷ known) number bits none =
     let rest = unnamed (before × (number ≡ kindNumber kind → ⊥)) known number bits none in
     (simp (ne-eqb _ _ (rest .1 .1)) (rest .0), rest .1 .0)
 
-pub no-kind : (number bits : ℕ) → NoneOf Unit kinds number → Bad ≡ named kinds number bits
+pub no-kind : (number bits : ℕ) → NoKind Unit kinds number → Bad ≡ named kinds number bits
 no-kind number bits none = unnamed Unit kinds number bits none .0
 
 -- a buffer whose front holds `vs`
