@@ -56,6 +56,7 @@ pub fn by_hand(name: &[u8], kind: Kind, values: Record, bits: usize, digits: &[u
     tell(taken, b", read as by hand\n", b", read otherwise\n");
 }
 
+// Prints one text or the other.
 fn tell(first: bool, a: &[u8], b: &[u8]) {
     if first {
         io::write_all(1, a);

@@ -6,7 +6,7 @@ ghost use Rattle.layout.specs.declared.Items.the-variants.{Numbers, Letters};
 ghost use Rattle.layout.specs.Frame.{places};
 ghost use Rattle.layout.specs.Shape.{listPlaces};
 
-// What a place holds.
+// A value at a place.
 pub fn put(values: Record, place: usize, value: u32) -> Record
     requires { ⌜ place < places ⌝ }
 {

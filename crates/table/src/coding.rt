@@ -33,6 +33,7 @@ pub const TAKES: u64 = 0x100_0000_0000_0000;
 // A chain of two, which has its first place twice.
 pub const CHAIN: u64 = OUTER + INNER;
 
+// NO, as `holds` is asked for it.
 pub const IF_NO: u8 = NO as u8;
 
 pub const IS_YES: u64 = YES as u64 * VALUE;

@@ -2,6 +2,7 @@
 use crate::coding::*;
 use crate::place::deassign::*;
 
+// After O-bit 1; and where the P-bit at a place, which is to be added, is 1 besides.
 const O: u64 = O_BIT as u64;
 
 const OPTION: u64 = O * PLACE + IS_ONE;

@@ -4,8 +4,11 @@ use crate::place::define_ack::*;
 
 pub const CALL_LINE: u64 = NUMBER_14 + CALL_RELATED as u64 * PLACE + IS_YES;
 
-const OPTION: u64 = O_BIT as u64 * PLACE + IS_ONE;
+// After O-bit 1.
+const O: u64 = O_BIT as u64;
+
+const OPTION: u64 = O * PLACE + IS_ONE;
 
 pub const M_BIT: u64 = ENDING + OPTION;
 
-pub const NOTHING_LINE: u64 = NOTHING + O_BIT as u64 * FIRST + OPTION;
+pub const NOTHING_LINE: u64 = NOTHING + O * FIRST + OPTION;

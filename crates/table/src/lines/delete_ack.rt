@@ -2,6 +2,7 @@
 use crate::coding::*;
 use crate::place::delete_ack::*;
 
+// After O-bit 1.
 const O: u64 = O_BIT as u64;
 
 const OPTION: u64 = O * PLACE + IS_ONE;
