@@ -19,7 +19,7 @@ tables (kind ∷ more) = tableOf kind ++ tables more
 unfoldable pub lines : List Element
 lines = tables kinds
 
--- where a kind's table begins, and the line behind its last
+-- where a kind's table begins, and the line behind its last; one computed test holds them to the tables (`own-lines`, `own-end`)
 abbrev pub firstLine : Kind → ℕ
 firstLine Define = 0
 firstLine DefineAck = 30
