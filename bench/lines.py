@@ -12,26 +12,27 @@ LONGEST = 432  # digits of a line
 
 
 class Refused(Exception):
-    """A frame that is not taken, with the refusal's number."""
+    """A frame that is not taken: the refusal's number, and the bit at which the refused element begins."""
 
 
 class Reading:
-    """The elements of a frame, taken one after the other from its bits. Codes other than `codes` are reserved."""
+    """The elements of a frame, taken one after the other from its bits. Codes other than `codes` are reserved.
+    `last` is where the last element begins, `at` where the next one does."""
 
     def __init__(self, bits):
-        self.bits, self.at = bits, 0
+        self.bits, self.last, self.at = bits, 0, 0
 
     def take(self, width, codes=None, chosen=None):
-        if len(self.bits) - self.at < width:
-            raise Refused(1)
-        code = int(self.bits[self.at:self.at + width], 2)
-        self.at += width
+        self.last, self.at = self.at, self.at + width
+        if len(self.bits) < self.at:
+            self.refuse(1)
+        code = int(self.bits[self.last:self.at], 2)
         if codes is not None and code not in codes:
-            raise Refused(4)
+            self.refuse(4)
         return code
 
     def refuse(self, number):
-        raise Refused(number)
+        raise Refused(number, self.last)
 
 
 class Composing:
@@ -192,12 +193,12 @@ def read(kind, bits):
     """Refuses a run of bits that is no frame of that kind."""
     frame = Reading(bits)
     action, body = KINDS[kind]
-    head = frame.take(6), frame.take(4)
-    if head != (SS_TYPE, action):
-        frame.refuse(3)
+    ss_type = frame.take(6)
+    if frame.take(4) != action or ss_type != SS_TYPE:
+        raise Refused(3, 6 if ss_type == SS_TYPE else 0)
     body(frame)
     if frame.at < len(bits):
-        frame.refuse(2)
+        raise Refused(2, frame.at)
 
 
 def reply(line):
@@ -212,7 +213,7 @@ def reply(line):
     try:
         read(kind, bits)
     except Refused as refusal:
-        return f"R{refusal.args[0]}"
+        return "R%d %04X" % refusal.args
     return "A" + line_of(kind, bits)
 
 

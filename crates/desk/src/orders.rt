@@ -121,8 +121,8 @@ fn define_by(
     };
     let reading = read_define(text, bits);
     let verdict = reading.verdict;
-    if let Verdict::Refused(refusal) = verdict {
-        return refuse(refusal, out);
+    if let Verdict::Refused(refusal, bit) = verdict {
+        return house::refuse_at(refusal, bit, out);
     }
     let values = reading.values;
     let sent = ledger::define(head, groups, pairs, asker, values, rows);

@@ -10,12 +10,16 @@ use Rattle.layout.specs.declared.Reading.{Reading}
 use Rattle.house.specs.declared.Line.the-variants.{Frame, Bad}
 use Rattle.house.specs.Hex.{bytesFrom}
 use Rattle.house.specs.Heading.{headingOf, splitOf}
-use Rattle.house.specs.Echo.{refused, answerTo, echoLine, echoWithin}
+use Rattle.house.specs.Echo.{within, refused, answerTo, echoLine, echoWithin}
 
-module _ (space : ℕ) (line : List ℕ) where
-  pub no-room : space < 433 → echoWithin space line ≡ []
+module _ (space : ℕ) (text : List ℕ) where
+  pub no-room : space < 433 → within space text ≡ []
   no-room h = simp (lt-leb _ _ h)
 
+  pub with-room : 433 ≤ space → within space text ≡ text
+  with-room h = simp (le-leb _ _ h)
+
+module _ (space : ℕ) (line : List ℕ) where
   module _ (room : 433 ≤ space) where
     pub reply-bad : headingOf line ≡ Bad → echoWithin space line ≡ refused BadLine
     unfolding echoLine

@@ -1,18 +1,22 @@
 -- Laws of the text that goes out: digits put one after the other, a number in decimal, and its length.
 use mathlib.Core.Path.{_≡_, refl, sym, ap, _∙_, subst}
-use mathlib.Core.List.{List, [], _∷_}
+use mathlib.Core.Bool.{Bool, true, false, cond}
+use mathlib.Core.List.{List, [], _∷_, _++_}
 use Prim.Native.Nat.{ℕ, zero, suc, _+_, _*_, _/_, _%_, _<_, _≤_, min}
 use native.Mathlib.Nat.{zero-min, suc-min-suc, min-le-right}
 use native.Mathlib.Numerals.{add-one}
 use native.Mathlib.Omega.{arith}
+use lib.Dec.{ltb}
 use lib.ListN.{length, getD, set, take, drop, length-take}
 use lib.Seq.{sets, drop-cons, getD-take, take-nil}
 use borrow.Author.Tests.{lt-ltb, le-ltb}
 use Rattle.bits.specs.Bits.{bytesFor}
+use Rattle.refusal.specs.Number.{numberOf}
+use Rattle.refusal.specs.declared.Refusal.{Refusal}
 use Rattle.layout.specs.declared.Kind.{Kind}
 use Rattle.house.specs.Kinds.{kindNumber}
 use Rattle.house.specs.Hex.{digitsOf}
-use Rattle.house.specs.Echo.{decimal, taken}
+use Rattle.house.specs.Echo.{decimal, refused, taken}
 use Rattle.house.specs.Sent.{Sent}
 
 pub length-digits : (bytes : List ℕ) → length (digitsOf bytes) ≡ 2 * length bytes
@@ -38,6 +42,26 @@ two-digits n m e h = rw (← e) (simp (le-ltb _ _ h))
 
 pub sent : {text same before after : List ℕ} {count : ℕ} → text ≡ same → Sent same before after count → Sent text before after count
 sent {text} {same} {before} {after} {count} e s = subst (λ t. Sent t before after count) (sym e) s
+
+-- R and the number, of one digit or two, and behind it a blank and the four digits of two bytes
+module _ (refusal : Refusal) (end : ℕ) (out out₁ : List ℕ) (put : Sent (refused refusal) out out₁ end) where
+  abbrev inDigits : Bool → List ℕ
+  inDigits b = cond b ((48 + numberOf refusal) ∷ []) ((48 + numberOf refusal / 10) ∷ (48 + numberOf refusal % 10) ∷ [])
+
+  pub refused-short : end ≤ 3
+  refused-short = go (ltb (numberOf refusal) 10) put
+    where
+      go : (b : Bool) → Sent (82 ∷ inDigits b) out out₁ end → end ≤ 3
+      go true s = omega (arith, s .counted)
+      go false s = omega (arith, s .counted)
+
+  pub refused-then : (out₂ : List ℕ) (high low : ℕ) → out₂ ≡ sets (set out₁ end 32) (end + 1) (digitsOf (high ∷ low ∷ []))
+      → Sent (refused refusal ++ (32 ∷ digitsOf (high ∷ low ∷ []))) out out₂ (end + 5)
+  refused-then out₂ high low behind = go (ltb (numberOf refusal) 10) put
+    where
+      go : (b : Bool) → Sent (82 ∷ inDigits b) out out₁ end → Sent (82 ∷ inDigits b ++ (32 ∷ digitsOf (high ∷ low ∷ []))) out out₂ (end + 5)
+      go true s = record { counted = rw (s .counted); stored = rw (behind, s .stored, s .counted); short = omega (arith, s .counted) }
+      go false s = record { counted = rw (s .counted); stored = rw (behind, s .stored, s .counted); short = omega (arith, s .counted) }
 
 -- as many bytes as there are, where more are asked for
 pub take-least : (bytes : List ℕ) (n : ℕ) → take (min n (length bytes)) bytes ≡ take n bytes

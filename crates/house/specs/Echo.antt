@@ -1,6 +1,6 @@
--- The reply to a line of house text: A and the line made anew, or R and the refusal's number.
+-- The reply to a line of house text: A and the line made anew; or R and the refusal's number, and behind it, where the reader refuses, the bit.
 use mathlib.Core.Bool.{cond}
-use mathlib.Core.List.{List, [], _∷_}
+use mathlib.Core.List.{List, [], _∷_, _++_}
 use Prim.Native.Nat.{ℕ, _+_, _/_, _%_}
 use lib.Dec.{leb, ltb}
 use lib.ListN.{length, take, replicate}
@@ -25,9 +25,17 @@ use Rattle.house.specs.Heading.{headingOf, splitOf}
 abbrev pub decimal : ℕ → List ℕ
 decimal n = cond (ltb n 10) ((48 + n) ∷ []) ((48 + n / 10) ∷ (48 + n % 10) ∷ [])
 
+-- a reply where `space` bytes are lent for it: nothing where the longest, A and 432 digits, would not fit
+abbrev pub within : ℕ → List ℕ → List ℕ
+within space text = cond (leb 433 space) text []
+
 -- R and the number
 abbrev pub refused : Refusal → List ℕ
 refused refusal = 82 ∷ decimal (numberOf refusal)
+
+-- R and the number, a blank, and the bit at which the refused element begins, in four digits
+abbrev pub refusedAt : Refusal → ℕ → List ℕ
+refusedAt refusal bit = refused refusal ++ (32 ∷ digitsOf ((bit / 256 % 256) ∷ (bit % 256) ∷ []))
 
 -- A and the line: kind, bit count, bytes
 abbrev pub taken : Kind → ℕ → List ℕ → List ℕ
@@ -49,7 +57,7 @@ anew kind place = made kind place (writtenOf kind place (length room) 0)
 -- what the reader found
 abbrev pub told : Kind → List ℕ → Verdict → List ℕ
 told kind place Read = anew kind place
-told kind place (NotRead refusal) = refused refusal
+told kind place (NotRead refusal bit) = refusedAt refusal bit
 
 abbrev pub answerTo : Kind → Reading → List ℕ
 answerTo kind reading = told kind (reading .values .place) (reading .verdict)
@@ -62,6 +70,6 @@ reply Bad digits = refused BadLine
 unfoldable pub echoLine : List ℕ → List ℕ
 echoLine line = reply (headingOf line) (splitOf line)
 
--- the same where `space` bytes are lent for it: nothing where the longest reply, A and 432 digits, would not fit
+-- the same where `space` bytes are lent for it
 abbrev pub echoWithin : ℕ → List ℕ → List ℕ
-echoWithin space line = cond (leb 433 space) (echoLine line) []
+echoWithin space line = within space (echoLine line)

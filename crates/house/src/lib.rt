@@ -21,7 +21,7 @@ ghost use Rattle.house.specs.Heading.{named, headed, headingOf, splitOf}
 ghost use Rattle.house.specs.Unpacked.{Unpacked};
 ghost use Rattle.bits.specs.Bits.{bytesFor};
 ghost use Rattle.layout.specs.Frame.{readingOf};
-ghost use Rattle.house.specs.Echo.{refused, taken, anew, answerTo, echoWithin};
+ghost use Rattle.house.specs.Echo.{refused, within, refusedAt, taken, anew, answerTo, echoWithin};
 ghost use Rattle.house.specs.Sent.{Sent};
 
 // The most digits of a line, and the bytes that they stand for: kind, bit count and frame.
@@ -239,6 +239,21 @@ fn refuse(refusal: Refusal, out: &mut [u8]) -> usize
     }
 }
 
+// Answers R, the refusal's number and the bit at which the refused element begins; nothing where `out` has no room for the longest reply.
+pub fn refuse_at(refusal: Refusal, bit: usize, out: &mut [u8]) -> usize
+    ensures { λ r. ⌜ Sent (within (length (now (out .entry))) (refusedAt refusal bit)) (now (out .entry)) (now (out .exit)) r ⌝ }
+{
+    if out.len() < REPLY {
+        return 0;
+    }
+    let digits = value_digits();
+    let bytes = [(bit / 256 % 256) as u8, (bit % 256) as u8];
+    let end = refuse(refusal, out);
+    out[end] = b' ';
+    put_bytes(&digits, &bytes, 2, out, end + 1);
+    end + 5
+}
+
 // The smaller of two numbers.
 fn least(a: usize, b: usize) -> usize
     ensures { λ r. ⌜ r ≡ min a b ⌝ }
@@ -285,7 +300,7 @@ fn answer(kind: Kind, frame: &[u8], bits: usize, out: &mut [u8]) -> usize
     let verdict = reading.verdict;
     match verdict {
         Verdict::Frame => remake(kind, &reading.values.place, out),
-        Verdict::Refused(refusal) => refuse(refusal, out),
+        Verdict::Refused(refusal, bit) => refuse_at(refusal, bit, out),
     }
 }
 

@@ -58,10 +58,10 @@ blankOf = record { place = replicate places 0 }
 abbrev pub filled : List ℕ → List ℕ
 filled s = s ++ replicate (places - length s) 0
 
--- the record, filled up; on a refusal the number alone
+-- the record, filled up; on a refusal its number and its bit alone
 unfoldable pub asReading : Answer → Reading
 asReading (frame s) = record { verdict = verdict.Frame; values = record { place = filled s } }
-asReading (refused n at) = record { verdict = verdict.Refused n; values = blankOf }
+asReading (refused n at) = record { verdict = verdict.Refused n at; values = blankOf }
 
 unfoldable pub readingOf : Kind → List ℕ → ℕ → Reading
 readingOf kind bytes count = asReading (readBytes kind bytes count)

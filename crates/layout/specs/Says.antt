@@ -2,7 +2,9 @@
 -- Assumes nothing.
 use Prim.Native.Nat.{ℕ}
 use mathlib.Core.List.{List, [], _∷_}
+use Rattle.refusal.specs.Number.{numberOf}
 use Rattle.refusal.specs.Says.{Says, accepted, refusedWith}
+use Rattle.refusal.specs.declared.Refusal.{Refusal}
 use Rattle.layout.specs.declared.Verdict.{Verdict}
 use Rattle.layout.specs.declared.Verdict.the-variants as verdict
 use Rattle.layout.specs.declared.Reading.{Reading}
@@ -13,10 +15,14 @@ use Rattle.layout.specs.declared.Written.the-variants as written
 use Rattle.layout.specs.Read.{Answer, frame, refused}
 use Rattle.layout.specs.Frame.{filled}
 
+-- a refusal of the reader: its number, and the bit at which the refused element begins
+abbrev pub refusedAt : Refusal → ℕ → Says
+refusedAt refusal at = record { number = numberOf refusal; values = at ∷ [] }
+
 -- a verdict, with the record beside it
 abbrev pub verdictSays : Verdict → List ℕ → Says
 verdictSays verdict.Frame place = accepted place
-verdictSays (verdict.Refused n) place = refusedWith n
+verdictSays (verdict.Refused n at) place = refusedAt n at
 
 abbrev pub readingSays : Reading → Says
 readingSays r = verdictSays (r .verdict) (r .values .place)
@@ -33,4 +39,4 @@ writtenSays (written.Refused n) = refusedWith n
 -- what reading says of the bits themselves
 abbrev pub answerSays : Answer → Says
 answerSays (frame s) = accepted (filled s)
-answerSays (refused n at) = refusedWith n
+answerSays (refused n at) = refusedAt n at

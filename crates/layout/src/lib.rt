@@ -57,9 +57,10 @@ pub struct Record {
     pub place: [u32; PLACES],
 }
 
+// A refusal comes with the bit at which the refused element begins.
 pub enum Verdict {
     Frame,
-    Refused(Refusal),
+    Refused(Refusal, usize),
 }
 
 // What the reader makes of bits. On a refusal every place is 0.

@@ -113,15 +113,15 @@ pub fn read_elements(kind: Kind, frame: &[u8], bits: usize, from: usize) -> Read
             Step::Next(next) => {
                 at = next;
             }
-            Step::Refused(n, _) => {
-                return refused(n);
+            Step::Refused(n, bit) => {
+                return refused(n, bit);
             }
         }
         place += places_of(element);
         k += 1;
     }
     if at < bits {
-        return refused(Refusal::BitsRemain);
+        return refused(Refusal::BitsRemain, at);
     }
     Reading {
         verdict: Verdict::Frame,
@@ -129,12 +129,12 @@ pub fn read_elements(kind: Kind, frame: &[u8], bits: usize, from: usize) -> Read
     }
 }
 
-// A refusal: the number alone.
-pub fn refused(refusal: Refusal) -> Reading
-    ensures { λ r. ⌜ r ≡ asReading (answer.refused refusal 0) ⌝ }
+// A refusal, with the bit at which the refused element begins.
+pub fn refused(refusal: Refusal, bit: usize) -> Reading
+    ensures { λ r. ⌜ r ≡ asReading (answer.refused refusal bit) ⌝ }
 {
     Reading {
-        verdict: Verdict::Refused(refusal),
+        verdict: Verdict::Refused(refusal, bit),
         values: Record {
             place: [0u32; PLACES],
         },

@@ -58,10 +58,10 @@ pub fn read_frame(kind: Kind, frame: &[u8], bits: usize) -> Reading
     ensures { λ r. ⌜ r ≡ readingOf kind (now (frame .entry)) bits ⌝ }
 {
     if frame.len() < bits / 8 + (bits % 8 + 7) / 8 {
-        return refused(Refusal::EndsInside);
+        return refused(Refusal::EndsInside, 0);
     }
     match read_head(kind, frame, bits) {
         Step::Next(at) => read_elements(kind, frame, bits, at),
-        Step::Refused(n, _) => refused(n),
+        Step::Refused(n, bit) => refused(n, bit),
     }
 }

@@ -27,7 +27,7 @@ use Rattle.rules.specs.Run.{run}
 
 pub data Sample : Type 0 where
   taken : Kind → ℕ → List ℕ → List ℕ → Sample  -- so many bits in these bytes are this record, which goes on with 0; and it is written so
-  refused : Kind → ℕ → List ℕ → ℕ → Sample  -- so many bits in these bytes are refused with this number
+  refused : Kind → ℕ → List ℕ → ℕ → ℕ → Sample  -- so many bits in these bytes are refused with this number, at this bit
   ordered : History → Step → ℕ → List Entry → Sample  -- after this history the step gets this number (0: accepted), and asker 1's list of group 5 is then this
 
 -- ---- records and orders that the table names
@@ -87,11 +87,11 @@ samples =
     ∷ taken Cancel 35 (0x51 ∷ 0x80 ∷ 0x02 ∷ 0x80 ∷ 0xE0 ∷ []) (Yes ∷ 5 ∷ replicate 4 0 ++ sna 7)
     -- CANCEL-ACK, no call, SNA 7, cancelled: 22 bits; with one bit less, and one more
     ∷ taken CancelAck 22 (0x51 ∷ 0xA0 ∷ 0x38 ∷ []) (No ∷ 0 ∷ sna 7 ++ (0 ∷ []))
-    ∷ refused CancelAck 21 (0x51 ∷ 0xA0 ∷ 0x38 ∷ []) 1
-    ∷ refused CancelAck 23 (0x51 ∷ 0xA0 ∷ 0x38 ∷ []) 2
+    ∷ refused CancelAck 21 (0x51 ∷ 0xA0 ∷ 0x38 ∷ []) 1 21
+    ∷ refused CancelAck 23 (0x51 ∷ 0xA0 ∷ 0x38 ∷ []) 2 22
     -- no bits; more bits than bytes
-    ∷ refused Define 0 (0x50 ∷ 0xE0 ∷ 0x40 ∷ 0x00 ∷ 0x00 ∷ 0x40 ∷ []) 1
-    ∷ refused Define 49 (0x50 ∷ 0xE0 ∷ 0x40 ∷ 0x00 ∷ 0x00 ∷ 0x40 ∷ []) 1
+    ∷ refused Define 0 (0x50 ∷ 0xE0 ∷ 0x40 ∷ 0x00 ∷ 0x00 ∷ 0x40 ∷ []) 1 0
+    ∷ refused Define 49 (0x50 ∷ 0xE0 ∷ 0x40 ∷ 0x00 ∷ 0x00 ∷ 0x40 ∷ []) 1 0
     -- ASSIGN: SNA 7, no options; SSI 5, and SSI 6 with extension 7, acknowledged call, name AB, class 6
     ∷ taken Assign 25 (0x50 ∷ 0x40 ∷ 0x07 ∷ 0x00 ∷ []) (one (sna 7))
     ∷ taken Assign 124 (0x50 ∷ 0x49 ∷ 0x00 ∷ 0x00 ∷ 0x05 ∷ 0x80 ∷ 0x00 ∷ 0x01 ∷ 0x80 ∷ 0x00 ∷ 0x01 ∷ 0xF2 ∷ 0x28 ∷ 0x28 ∷ 0x4E ∷ 0x00 ∷ [])
@@ -106,17 +106,32 @@ samples =
     -- DEASSIGNING-ACK: SNA 7, result 0; SSI 5 and SSI 6, result 5; with a bit more, as an O-bit would be
     ∷ taken DeassigningAck 28 (0x50 ∷ 0x80 ∷ 0x07 ∷ 0x00 ∷ []) (one (sna 7))
     ∷ taken DeassigningAck 70 (0x50 ∷ 0x89 ∷ 0x00 ∷ 0x00 ∷ 0x05 ∷ 0x40 ∷ 0x00 ∷ 0x01 ∷ 0x94 ∷ []) (listed 2 (ssi 5 ++ ssi 6) ++ (5 ∷ []))
-    ∷ refused DeassigningAck 29 (0x50 ∷ 0x80 ∷ 0x07 ∷ 0x00 ∷ []) 2
+    ∷ refused DeassigningAck 29 (0x50 ∷ 0x80 ∷ 0x07 ∷ 0x00 ∷ []) 2 28
     -- DELETE: SNA 7, deleted, not removed; SSI 5, not deleted, removed from SSI 9, acknowledgement requested; the same with a P-bit before the list
     ∷ taken Delete 27 (0x52 ∷ 0x80 ∷ 0x07 ∷ 0x40 ∷ []) (one (sna 7) ++ (Yes ∷ No ∷ []))
     ∷ taken Delete 76 (0x52 ∷ 0x81 ∷ 0x00 ∷ 0x00 ∷ 0x05 ∷ 0xA0 ∷ 0x80 ∷ 0x00 ∷ 0x04 ∷ 0xC0 ∷ [])
     (one (ssi 5) ++ (No ∷ Yes ∷ 1 ∷ one (ssi 9) ++ (1 ∷ Yes ∷ [])))
-    ∷ refused Delete 77 (0x52 ∷ 0x81 ∷ 0x00 ∷ 0x00 ∷ 0x05 ∷ 0xB0 ∷ 0x40 ∷ 0x00 ∷ 0x02 ∷ 0x60 ∷ []) 1
+    ∷ refused Delete 77 (0x52 ∷ 0x81 ∷ 0x00 ∷ 0x00 ∷ 0x05 ∷ 0xB0 ∷ 0x40 ∷ 0x00 ∷ 0x02 ∷ 0x60 ∷ []) 1 77
     -- DELETE-ACK: SNA 7, result 0; SSI 5, and SSI 6 with extension 7, result 1; O-bit 1 and nothing after it
     ∷ taken DeleteAck 29 (0x52 ∷ 0x80 ∷ 0x07 ∷ 0x00 ∷ []) (one (sna 7))
     ∷ taken DeleteAck 95 (0x52 ∷ 0x89 ∷ 0x00 ∷ 0x00 ∷ 0x05 ∷ 0x80 ∷ 0x00 ∷ 0x01 ∷ 0x80 ∷ 0x00 ∷ 0x01 ∷ 0xC4 ∷ [])
     (listed 2 (ssi 5 ++ extended 6 7) ++ (1 ∷ []))
-    ∷ refused DeleteAck 30 (0x52 ∷ 0x80 ∷ 0x07 ∷ 0x08 ∷ []) 6
+    ∷ refused DeleteAck 30 (0x52 ∷ 0x80 ∷ 0x07 ∷ 0x08 ∷ []) 6 29
+    -- where a frame is bad: cut inside SS-Type, and inside action type though SS-Type is wrong; SS-Type wrong, action type another's
+    ∷ refused Define 5 (0x50 ∷ []) 1 0
+    ∷ refused Define 9 (0x54 ∷ 0xE0 ∷ []) 1 6
+    ∷ refused Define 43 (0x54 ∷ 0xE0 ∷ 0x40 ∷ 0x00 ∷ 0x00 ∷ 0x40 ∷ []) 3 0
+    ∷ refused Define 22 (0x51 ∷ 0xA0 ∷ 0x38 ∷ []) 3 6
+    -- cut inside the group's SSI; number type 11; type identifier 3; no group and no call
+    ∷ refused Define 26 (0x50 ∷ 0xE0 ∷ 0x40 ∷ 0x00 ∷ []) 1 18
+    ∷ refused Define 43 (0x50 ∷ 0xEB ∷ 0x40 ∷ 0x00 ∷ 0x00 ∷ 0x40 ∷ []) 4 12
+    ∷ refused Define 43 (0x50 ∷ 0xE0 ∷ 0xC0 ∷ 0x00 ∷ 0x00 ∷ 0x40 ∷ []) 4 16
+    ∷ refused Define 13 (0x50 ∷ 0xF0 ∷ []) 5 11
+    -- acknowledgement requested 1, behind its P-bit; an O-bit and eight P-bits 0, then M-bit 0 and M-bit 1; eight bits too many
+    ∷ refused Deassign 28 (0x50 ∷ 0x80 ∷ 0x07 ∷ 0xE0 ∷ []) 4 26
+    ∷ refused Assign 34 (0x50 ∷ 0x40 ∷ 0x07 ∷ 0x80 ∷ 0x00 ∷ []) 6 33
+    ∷ refused Assign 34 (0x50 ∷ 0x40 ∷ 0x07 ∷ 0x80 ∷ 0x40 ∷ []) 7 33
+    ∷ refused CancelAck 30 (0x51 ∷ 0xA0 ∷ 0x38 ∷ 0x00 ∷ []) 2 22
     -- answer after 29 ticks and after 30: both accepted
     ∷ ordered (ticks 29 (start then assigns)) confirms 0 ((9, 2) ∷ [])
     ∷ ordered (ticks 30 (start then assigns)) confirms 0 ((9, 2) ∷ [])
@@ -144,11 +159,11 @@ filled s = s ++ replicate (places - length s) 0
 
 abbrev accepts : Verdict → Bool
 accepts verdict.Frame = true
-accepts (verdict.Refused n) = false
+accepts (verdict.Refused n at) = false
 
-abbrev refusesWith : ℕ → Verdict → Bool
-refusesWith n verdict.Frame = false
-refusesWith n (verdict.Refused r) = eqb (numberOf r) n
+abbrev refusesWith : ℕ → ℕ → Verdict → Bool
+refusesWith n bit verdict.Frame = false
+refusesWith n bit (verdict.Refused r at) = eqb (numberOf r) n && eqb at bit
 
 abbrev writes : ℕ → Written → Bool
 writes n (written.Bits m) = eqb m n
@@ -173,9 +188,9 @@ passes (taken kind count bytes s) =
     && same (reading .values .place) (filled s)
     && writes count (writtenOf kind s size 0)
     && same (outputOf kind s (replicate size 0) 0) bytes
-passes (refused kind count bytes n) =
+passes (refused kind count bytes n bit) =
     let reading = readingOf kind bytes count in
-    refusesWith n (reading .verdict) && same (reading .values .place) (filled [])
+    refusesWith n bit (reading .verdict) && same (reading .values .place) (filled [])
 -- by what the history means, and on the abstract ledger by arrival after it
 passes (ordered before next n entries) =
     eqb (replyNumber (refusalIn before next)) n

@@ -90,7 +90,7 @@ fn alike(values: Record, again: Reading) -> bool {
     let found = again.values;
     match verdict {
         Verdict::Frame => same(values, found),
-        Verdict::Refused(_) => false,
+        Verdict::Refused(_, _) => false,
     }
 }
 

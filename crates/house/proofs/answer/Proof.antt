@@ -1,7 +1,10 @@
 -- `house::answer` meets its contract: each arm is the case of the verdict.
 use mathlib.Core.Path.{ap, sym, _∙_}
+use native.Mathlib.Omega.{arith}
+use lib.ListN.{length}
 use Rattle.house.specs.Echo.{told, answerTo}
 use Rattle.house.proofs.Texts.{sent}
+use Rattle.house.proofs.Replies.{with-room}
 use borrow.Author.Needs.{needs}
 use Rattle.house.proofs.answer.Statement.{statement}
 use Rattle.house.proofs.answer.Tie as tie
@@ -18,8 +21,8 @@ remake-requires c κs = search needs
 enum-known-verdict : tie.Need-enum-known-verdict
 enum-known-verdict c = search needs
 
-refuse-requires : tie.Need-refuse-requires
-refuse-requires c κs = search needs
+refuse-at-requires : tie.Need-refuse-at-requires
+refuse-at-requires c κs = search needs
 
 same-length : tie.Need-same-length
 same-length c = search needs
@@ -39,7 +42,7 @@ returns-2 c =
     let found = c .before .before .before .before .before .before .before in
     let kind = found .before .before .before .args .kind in
     let verdict = ap (told kind (found .read .result .values .place)) (c .before .before .before .before .before .verdict .given .1) in
-    sent (sym (ap (answerTo kind) (found .read .ensures)) ∙ verdict) (c .before .before .refuse .ensures)
+    sent (sym (ap (answerTo kind) (found .read .ensures)) ∙ verdict ∙ sym (with-room (length (found .before .before .before .args .out .now)) _ (omega arith))) (c .before .before .refuse-at .ensures)
 
 pub answer-spec : {M : Type 1} → statement M
 answer-spec =
@@ -49,7 +52,7 @@ answer-spec =
     enum-told
     remake-requires
     enum-known-verdict
-    refuse-requires
+    refuse-at-requires
     same-length
     returns
     same-length-2

@@ -13,7 +13,7 @@ use Rattle.house.proofs.echo_line.Statement.{statement}
 use Rattle.house.proofs.echo_line.Tie as tie
 
 returns : tie.Need-returns
-returns c = sent (no-room (length (c .before .before .before .args .out .now)) (c .before .before .before .args .line .now) (c .if1 .taken)) (record { counted = refl; stored = refl; short = lit≤ tt })
+returns c = sent (no-room (length (c .before .before .before .args .out .now)) _ (c .if1 .taken)) (record { counted = refl; stored = refl; short = lit≤ tt })
 
 unpacking : (c : tie.After-known-told) → Unpacked (c .before .before .before .before .before .before .before .before .before .args .line .now) (replicate 216 0) (c .before .before .before .before .unpack .last .1 .0) (Frame (c .before .kind .given .0 .0) (c .before .kind .given .0 .1 .0))
 unpacking c = subst (Unpacked _ _ _) (c .before .kind .given .1) (c .before .before .before .before .unpack .ensures)

@@ -2,7 +2,6 @@
 -- Assumes nothing.
 use mathlib.Core.Path.{_∙_}
 use native.Mathlib.Omega.{arith}
-use Rattle.layout.specs.Frame.{asReading}
 use Rattle.reading.proofs.Going.{reading-lent, reading-on}
 use borrow.Author.Needs.{needs}
 use Rattle.reading.proofs.read_frame.Statement.{statement}
@@ -45,7 +44,6 @@ returns-2 c =
     ∙ reading-on (s .args .kind) (s .args .frame .now) (s .args .bits) _ _ (omega arith) (h .read-head .ensures) (c .before .before .at .given .1)
 
 returns-3 : tie.Need-returns-3
-unfolding asReading
 returns-3 c =
     let h = c .before .before .before .before in
     let s = h .before .before .before in

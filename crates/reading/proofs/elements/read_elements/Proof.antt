@@ -77,7 +77,6 @@ refused-requires : tie.Need-refused-requires Inv-loop μ-loop
 refused-requires c κs = search needs
 
 returns : tie.Need-returns Inv-loop μ-loop
-unfolding asReading
 returns c =
     let t = c .before .before .before .before .before .before .before in
     let l = t .before .before in
@@ -111,7 +110,6 @@ refused-requires-2 : tie.Need-refused-requires-2 Inv-loop μ-loop
 refused-requires-2 c κs = search needs
 
 returns-2 : tie.Need-returns-2 Inv-loop μ-loop
-unfolding asReading
 returns-2 c =
     let l = c .before .before .before in
     let over = going-over (own (l .before)) (going l) (c .before .before .loop-test .left) in
