@@ -5,3 +5,6 @@ pub mod Frames
 pub mod Says
 pub mod Chains
 pub mod Readings
+pub mod Passing
+pub mod RowSorts
+pub mod Where

@@ -10,15 +10,16 @@ use borrow.Author.Tests.{eq-eqb, ne-eqb, eqb-false}
 use lib.Dec.{T, eqb}
 use lib.ListN.{length, take, drop, getD, length-take, drop-of-length-le}
 use lib.Seq.{getD-take, drop-cons}
-use Rattle.refusal.specs.declared.Refusal.the-variants.{TypeThree, NothingFollows}
+use Rattle.refusal.specs.declared.Refusal.the-variants.{NothingFollows}
 use Rattle.layout.specs.declared.Kind.{Kind}
 use Rattle.layout.specs.declared.Kind.the-variants.{DefineAck, DeassigningAck, Delete, DeleteAck}
 use Rattle.layout.specs.Row.{is, nothingSince, Row, all, present, nothing, bare, there}
-use Rattle.layout.specs.Shape.{Yes, row, number, refuse, rowsOf, repeated, span, spans, unrolled}
+use Rattle.layout.specs.Shape.{Yes, number, refuse, rowsOf, repeated, span, spans, unrolled}
 use Rattle.layout.specs.Table.{defineAck, deassigningAck, delete, deleteAck}
 use Rattle.layout.specs.Kinds.{tableOf}
 use Rattle.layout.specs.Write.{held, lay, good, vals}
 use Rattle.layout.specs.Frame.{rows, laid, clean, valid}
+use Rattle.layout.specs.Where.{mBit}
 use Rattle.layout.proofs.Tests.{left, right, and-true}
 use Rattle.layout.proofs.RoundTrip.{Good, good→}
 
@@ -99,11 +100,8 @@ unfolding lay vals
 length-vals [] done s = refl
 length-vals (r ∷ table) done s = ap suc (length-vals table (done ++ (held (there done r) (getD s 0 0) ∷ [])) (tail s))
 
--- the rows behind an O-bit at o with which a table ends
-abbrev mBit : ℕ → Row
-mBit o = row 1 0 1 TypeThree 0 (is o 1 ∷ [])
-
-abbrev followed : ℕ → Row
+-- behind an O-bit at o a table ends with the M-bit and this row
+abbrev pub followed : ℕ → Row
 followed o = refuse NothingFollows 1 (nothingSince o ∷ is o 1 ∷ [])
 
 record Closes (kind : Kind) (o : ℕ) : Type 0 where

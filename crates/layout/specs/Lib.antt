@@ -8,4 +8,5 @@ pub mod Read
 pub mod Write
 pub mod Frame
 pub mod Says
+pub mod Where
 pub mod Chain
