@@ -1,4 +1,4 @@
--- The round trip over the contracts of `read` and `write` themselves: what the one's call leaves, the other's call takes.
+-- The round trip over the contracts of `read` and `write` themselves: what the one's call leaves, the other's call takes; and where `read` finds a frame bad.
 -- `Post` is a contract's claim as the checker reads it: of the arguments, the result, and what the parameters hold at exit.
 -- Assumes nothing.
 use Prim.Native.Nat.{ℕ, _+_, _*_, _≤_}
@@ -12,14 +12,17 @@ use borrow.Author.Tests.{le-ltb}
 use lib.Dec.{T}
 use lib.ListN.{length, take, drop}
 use Rattle.bits.specs.Bits.{bitsOf, bytesFor, bytesOf}
+use Rattle.refusal.specs.declared.Refusal.{Refusal}
 use Rattle.layout.specs.declared.Kind.{Kind}
 use Rattle.layout.specs.declared.Reading.{Reading}
-use Rattle.layout.specs.declared.Verdict.the-variants.{Frame}
+use Rattle.layout.specs.declared.Verdict.the-variants.{Frame, Refused}
 use Rattle.layout.specs.declared.Written.{Written}
 use Rattle.layout.specs.declared.Written.the-variants.{Bits}
 use Rattle.layout.specs.Read as answer
 use Rattle.layout.specs.Frame as spec
 use Rattle.layout.specs.Frame.{readBytes, asReading, readingOf, clean, valid}
+use Rattle.layout.specs.Where.{RefusedIn}
+use Rattle.layout.proofs.WhereLent.{refused-in, in-refused}
 use Rattle.layout.proofs.Frames.{readAs, valid-judged, write-fits, write-then-read, MadeAgain, read-then-write}
 use Rattle.frame.proofs.read.Kinds as read-kinds
 use Rattle.frame.proofs.read.Reads as read
@@ -71,3 +74,12 @@ module _ (κs : Lfts 2) (λs : Lfts 1) (kind : Kind) (values out frame : RefT (L
       → reading ≡ readAs s
   unfolding readingOf readBytes asReading
   frame-is-taken s enough e r = r ∙ rw (le-ltb (8 * length (now frame)) count enough, e)
+
+-- where a frame is bad: `read` refuses with this number and this bit exactly where P2 says so of the lent bits
+module _ (λs : Lfts 1) (kind : Kind) (frame : RefT (List ℕ)) (count : ℕ) (reading : Reading) (after : AfterRead λs)
+    (r : read.Post λs (kind, (frame, (count, tt))) reading after) (n : Refusal) (at : ℕ) where
+  pub refused-where : reading .verdict ≡ Refused n at → RefusedIn kind (now frame) count n at
+  refused-where e = refused-in kind (now frame) count n at (ap (λ (x : Reading). x .verdict) (sym r) ∙ e)
+
+  pub where-refused : RefusedIn kind (now frame) count n at → reading .verdict ≡ Refused n at
+  where-refused bad = ap (λ (x : Reading). x .verdict) r ∙ in-refused kind (now frame) count n at bad

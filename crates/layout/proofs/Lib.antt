@@ -8,3 +8,5 @@ pub mod Readings
 pub mod Passing
 pub mod RowSorts
 pub mod Where
+pub mod WhereExact
+pub mod WhereLent

@@ -37,13 +37,13 @@ set-bit (true ∷ more) long code = (more, refl)
 set-bit (false ∷ more) long code = absurd (omega arith)
 
 -- a 0 behind a record changes none of its places
-getD-zero : (l : List ℕ) (q : ℕ) → getD (l ++ (0 ∷ [])) q 0 ≡ getD l q 0
+pub getD-zero : (l : List ℕ) (q : ℕ) → getD (l ++ (0 ∷ [])) q 0 ≡ getD l q 0
 getD-zero [] zero = refl
 getD-zero [] (suc q) = refl
 getD-zero (x ∷ l) zero = refl
 getD-zero (x ∷ l) (suc q) = getD-zero l q
 
-zeros-zero : (l : List ℕ) (q : ℕ) → all (λ v. eqb v 0) (drop q (l ++ (0 ∷ []))) ≡ all (λ v. eqb v 0) (drop q l)
+pub zeros-zero : (l : List ℕ) (q : ℕ) → all (λ v. eqb v 0) (drop q (l ++ (0 ∷ []))) ≡ all (λ v. eqb v 0) (drop q l)
 zeros-zero [] zero = refl
 zeros-zero [] (suc q) = ap (all (λ v. eqb v 0)) (drop-nil q)
 zeros-zero (x ∷ l) zero = ap (λ (b : Bool). eqb x 0 && b) (zeros-zero l zero)
@@ -293,7 +293,7 @@ module _ (kind : Kind) (bits front rest : List Bool) (done : List ℕ) (parts : 
         go false false p q = bad (present done (rowOf k .hang)) refl (ltb-false (length rest) width p) (ltb-false code codes q)
 
 -- ---- the whole frame
-head-length : (kind : Kind) → length (head kind) ≡ 10
+pub head-length : (kind : Kind) → length (head kind) ≡ 10
 unfolding head
 head-length kind = simp (length-append, length-digits)
 
