@@ -6,6 +6,7 @@ use Prim.Native.Nat.{ℕ, _+_, _-_, _*_, _/_, _<_, _≤_}
 use lib.Dec.{leb, eqb, lit<}
 use lib.ListN.{length, getD, take, drop, length-drop, List·getD-append}
 use lib.Seq.{sets, length-sets, sets-eq, take-all, take-at, drop-append-le}
+use native.Mathlib.Decide.{decLt}
 use native.Mathlib.Omega.{arith}
 use borrow.Author.Tests.{le-leb, lt-leb, eq-eqb, ne-eqb, eqb-true}
 use Rattle.bits.specs.Bits.{bytesFor}
@@ -131,6 +132,19 @@ module _ (line : List ℕ) (kind : Kind) (bits : ℕ) (known : headingOf line �
   long-enough =
       let holds : length line ≡ 6 + 2 * bytesFor bits = subst (Holds (length line)) known (heading-holds line) in
       omega arith
+
+  -- and short enough: its frame has no more than 1704 bits
+  pub few-bits : bits ≤ 1704
+  few-bits = go (decLt 432 (length line))
+    where
+      holds : length line ≡ 6 + 2 * bytesFor bits
+      holds = subst (Holds (length line)) known (heading-holds line)
+
+      go : Dec (432 < length line) → bits ≤ 1704
+      go (yes long) =
+          let bad : Bad ≡ Frame kind bits = sym (too-long line long) ∙ known in
+          let z : _≡_ {A = ℕ} 0 1 = cc in absurd (omega arith)
+      go (no short) = omega (arith, holds)
 
   pub split-frame : take (length line - 6) (drop 6 line) ≡ splitOf line
   unfolding splitOf

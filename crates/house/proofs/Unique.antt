@@ -25,6 +25,7 @@ module _ (κs : Lfts 2) (a : Dens κs echo-line-kinds.ps) (r r′ : resT echo-li
   pub echo-line-unique : echo-line.Post κs a r s → echo-line.Post κs a r′ s′ → (r ≡ r′) × (now (s .1 .0) ≡ now (s′ .1 .0))
   echo-line-unique p q = (p .counted ∙ sym (q .counted), p .stored ∙ sym (q .stored))
 
-module _ (κs : Lfts 1) (a : Dens κs refuse-at-kinds.ps) (r r′ : resT refuse-at-kinds.r κs .Denot) (s s′ : AtExit (endedOf 1 refuse-at-kinds.ps refuse-at-kinds.r) κs) where
+module _ (κs : Lfts 1) (a : Dens κs refuse-at-kinds.ps) (r r′ : resT refuse-at-kinds.r κs .Denot)
+    (s s′ : AtExit (endedOf 1 refuse-at-kinds.ps refuse-at-kinds.r) κs) where
   pub refuse-at-unique : refuse-at.Post κs a r s → refuse-at.Post κs a r′ s′ → (r ≡ r′) × (now (s .1 .1 .0) ≡ now (s′ .1 .1 .0))
   refuse-at-unique p q = (p .counted ∙ sym (q .counted), p .stored ∙ sym (q .stored))

@@ -6,7 +6,7 @@ pub mod Says
 pub mod Chains
 pub mod Readings
 pub mod Passing
-pub mod RowSorts
+pub mod RowNumbers
 pub mod Where
 pub mod WhereExact
 pub mod WhereLent

@@ -10,13 +10,14 @@ use borrow.Author.Tests.{eq-eqb, ne-eqb, eqb-false}
 use lib.Dec.{T, eqb}
 use lib.ListN.{length, take, drop, getD, length-take, drop-of-length-le}
 use lib.Seq.{getD-take, drop-cons}
-use Rattle.refusal.specs.declared.Refusal.the-variants.{NothingFollows}
+use Rattle.refusal.specs.Number.{numberOf}
+use Rattle.refusal.specs.declared.Refusal.the-variants.{NoGroup, NothingFollows}
 use Rattle.layout.specs.declared.Kind.{Kind}
-use Rattle.layout.specs.declared.Kind.the-variants.{DefineAck, DeassigningAck, Delete, DeleteAck}
+use Rattle.layout.specs.declared.Kind.the-variants.{Define, DefineAck, DeassigningAck, Delete, DeleteAck}
 use Rattle.layout.specs.Row.{is, nothingSince, Row, all, present, nothing, bare, there}
-use Rattle.layout.specs.Shape.{Yes, number, refuse, rowsOf, repeated, span, spans, unrolled}
-use Rattle.layout.specs.Table.{defineAck, deassigningAck, delete, deleteAck}
-use Rattle.layout.specs.Kinds.{tableOf}
+use Rattle.layout.specs.Shape.{Yes, No, number, refuse, rowsOf, repeated, span, spans, unrolled}
+use Rattle.layout.specs.Table.{define, defineAck, deassigningAck, delete, deleteAck}
+use Rattle.layout.specs.Kinds.{kinds, tableOf}
 use Rattle.layout.specs.Write.{held, lay, good, vals}
 use Rattle.layout.specs.Frame.{rows, laid, clean, valid}
 use Rattle.layout.specs.Where.{mBit}
@@ -49,7 +50,7 @@ module _ (done : List ℕ) (r : Row) (v : ℕ) (fine : Good (there done r) v) wh
       go false g = eq-eqb v 0 (omega (arith, g .high))
 
   -- of a row with one code, which is held as 0
-  holds-0 : r .first ≡ 0 → r .codes ≡ 1 → v ≡ 0
+  pub holds-0 : r .first ≡ 0 → r .codes ≡ 1 → v ≡ 0
   holds-0 first codes = go (present done (r .hang)) fine
     where
       go : (on : Bool) → Good (cond on (bare r) nothing) v → v ≡ 0
@@ -155,3 +156,13 @@ delete-ack-o-bit s has = no-o-bit DeleteAck s has 42 (record { inside = omega ar
 pub result-is-last : spans (tableOf DeassigningAck) ≡ suc (deassigningAck .known .result)
 unfolding tableOf span spans
 result-is-last = refl
+
+-- refusal 5 is of DEFINE's "group given", where its "call related" is no, and no other table has it
+pub group-given : getD (rows Define) (suc (define .known .given)) nothing
+    ≡ refuse NoGroup 1 (is (define .known .given) No ∷ is (define .known .«call_related») No ∷ [])
+unfolding rows unrolled rowsOf repeated span spans tableOf
+group-given = refl
+
+pub group-given-alone : T (all (λ kind. all (λ r. not (eqb (numberOf (r .refusal)) 5)) (rows kind)) (tail kinds))
+unfolding rows unrolled rowsOf repeated span spans tableOf
+group-given-alone = tt

@@ -57,15 +57,15 @@ turn-bits r v rest f g =
     (ap took (omega arith))
 
 -- what a row took is good, and its bits are those that the row would write
-record Took (r : Row) (bits : List Bool) (v : ℕ) : Type 0 where
-  fine : Good r v
-  same : digits (r .width) (v - r .first) ++ drop (r .width) bits ≡ bits
+pub record Took (r : Row) (bits : List Bool) (v : ℕ) : Type 0 where
+  pub fine : Good r v
+  pub same : digits (r .width) (v - r .first) ++ drop (r .width) bits ≡ bits
 
-abbrev Taken : Row → List Bool → Turn → Type 0
+abbrev pub Taken : Row → List Bool → Turn → Type 0
 Taken r bits (took v) = Took r bits v
 Taken r bits (stop n back) = Unit {0}
 
-taken : (r : Row) (bits : List Bool) → Taken r bits (turn r bits)
+pub taken : (r : Row) (bits : List Bool) → Taken r bits (turn r bits)
 taken r bits = go (ltb (length bits) (r .width)) (ltb code (r .codes)) refl refl
   where
     code : ℕ

@@ -1,9 +1,9 @@
 -- Where a frame in lent bytes is bad: the same of what the reader answers, and that its bit is no further than the frame's end.
 -- Assumes nothing.
-use Prim.Native.Nat.{ℕ, _+_, _*_, _≤_, _<_}
-use mathlib.Core.Path.{_≡_, refl, ap, sym, _∙_, subst}
+use Prim.Native.Nat.{ℕ, _*_, _≤_}
+use mathlib.Core.Path.{_≡_, refl, ap, subst}
 use mathlib.Core.Bool.{Bool, true, false, cond}
-use mathlib.Core.List.{List, [], _∷_, _++_}
+use mathlib.Core.List.{List, _++_}
 use native.Mathlib.Omega.{arith}
 use borrow.Author.Tests.{le-ltb, lt-ltb, ltb-true, ltb-false}
 use lib.Dec.{ltb}
@@ -17,7 +17,7 @@ use Rattle.layout.specs.declared.Kind.{Kind}
 use Rattle.layout.specs.declared.Verdict.{Verdict}
 use Rattle.layout.specs.declared.Verdict.the-variants as verdict
 use Rattle.layout.specs.Read.{Answer, frame, refused}
-use Rattle.layout.specs.Frame.{head, headBits, read, readBytes, asReading, readingOf}
+use Rattle.layout.specs.Frame.{head, read, readBytes, asReading, readingOf}
 use Rattle.layout.specs.Where.{Begins, Cut, ssTypeCut, actionTypeCut, rowCut, OtherKind, ssTypeWrong, actionTypeWrong}
 use Rattle.layout.specs.Where.{Refuses, one, two, three, four, five, six, seven, RefusedIn, countTooLarge, inTheBits}
 use Rattle.layout.proofs.Where.{head-length, refused-so}
@@ -26,7 +26,7 @@ use Rattle.layout.proofs.WhereExact.{so-refused}
 -- ---- the bit is one of the frame's, or the first past its end
 begins-within : {kind : Kind} {bits : List Bool} {at k : ℕ} {done : List ℕ} {rest : List Bool} → Begins kind bits at k done rest → at ≤ length bits
 begins-within {kind} {rest = rest} b =
-    omega (arith, b .place, ap length (b .parts), length-append (head kind) (b .front ++ rest), length-append (b .front) rest, head-length kind)
+    omega (arith, b .bit, ap length (b .parts), length-append (head kind) (b .front ++ rest), length-append (b .front) rest, head-length kind)
 
 cut-within : {kind : Kind} {bits : List Bool} {at : ℕ} → Cut kind bits at → at ≤ length bits
 cut-within (ssTypeCut e short) = omega arith

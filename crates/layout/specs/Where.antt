@@ -16,22 +16,23 @@ use Rattle.layout.specs.Kinds.{ssType, actionType}
 use Rattle.layout.specs.Read.{frame, readRows}
 use Rattle.layout.specs.Frame.{rows, head, headBits, read}
 
--- the element at the place k of the record begins at the bit `at`: behind the head stand the rows before it, read whole with the values `done`
-pub record Begins (kind : Kind) (bits : List Bool) (at k : ℕ) (done : List ℕ) (rest : List Bool) : Type 0 where
+-- the element at this place of the record begins at the bit `at`: behind the head stand the rows before it, read whole with the values `done`
+pub record Begins (kind : Kind) (bits : List Bool) (at place : ℕ) (done : List ℕ) (rest : List Bool) : Type 0 where
   pub front : List Bool
   pub parts : bits ≡ head kind ++ (front ++ rest)
-  pub before : readRows (take k (rows kind)) [] headBits front ≡ frame done
-  pub place : at ≡ headBits + length front
+  pub before : readRows (take place (rows kind)) [] headBits front ≡ frame done
+  pub bit : at ≡ headBits + length front
 
 -- the row of that element, as it is there
 abbrev pub rowAt : Kind → ℕ → List ℕ → Row
-rowAt kind k done = there done (getD (rows kind) k nothing)
+rowAt kind place done = there done (getD (rows kind) place nothing)
 
 -- 1: an element begins there, and the bits end inside it
 pub data Cut (kind : Kind) (bits : List Bool) (at : ℕ) : Type 0 where
   ssTypeCut : at ≡ 0 → length bits < 6 → Cut kind bits at
   actionTypeCut : at ≡ 6 → 6 ≤ length bits → length bits < headBits → Cut kind bits at
-  rowCut : (k : ℕ) (done : List ℕ) (rest : List Bool) → Begins kind bits at k done rest → length rest < rowAt kind k done .width → Cut kind bits at
+  rowCut : (place : ℕ) (done : List ℕ) (rest : List Bool) → Begins kind bits at place done rest → length rest < rowAt kind place done .width
+      → Cut kind bits at
 
 -- 2: the bits before it are a frame, and it is the first past that frame's end
 pub record PastEnd (kind : Kind) (bits : List Bool) (at : ℕ) : Type 0 where
@@ -47,13 +48,13 @@ pub data OtherKind (kind : Kind) (bits : List Bool) (at : ℕ) : Type 0 where
 
 -- 4: an element begins there and is whole, and its code is reserved
 pub record NoMeaning (kind : Kind) (bits : List Bool) (at : ℕ) : Type 0 where
-  pub k : ℕ
+  pub place : ℕ
   pub done : List ℕ
   pub rest : List Bool
-  pub begins : Begins kind bits at k done rest
-  pub whole : rowAt kind k done .width ≤ length rest
-  pub code : rowAt kind k done .codes ≤ value (take (rowAt kind k done .width) rest)
-  pub reserved : rowAt kind k done .refusal ≡ Reserved
+  pub begins : Begins kind bits at place done rest
+  pub whole : rowAt kind place done .width ≤ length rest
+  pub code : rowAt kind place done .codes ≤ value (take (rowAt kind place done .width) rest)
+  pub reserved : rowAt kind place done .refusal ≡ Reserved
 
 -- 5: "group given" begins there, at the place `given`, and is no, code 1; "call related", at the place `related`, was no.
 -- It is the element that the table's `neither related given` names.
@@ -72,12 +73,12 @@ mBit o = row 1 0 1 TypeThree 0 (is o 1 ∷ [])
 
 -- the M-bit begins there and is this bit; the O-bit was 1
 pub record AtMBit (kind : Kind) (bits : List Bool) (at : ℕ) (bit : Bool) : Type 0 where
-  pub k : ℕ
+  pub place : ℕ
   pub o : ℕ
-  pub ending : getD (rows kind) k nothing ≡ mBit o
+  pub ending : getD (rows kind) place nothing ≡ mBit o
   pub done : List ℕ
   pub rest : List Bool
-  pub begins : Begins kind bits at k done (bit ∷ rest)
+  pub begins : Begins kind bits at place done (bit ∷ rest)
   pub opened : getD done o 0 ≡ 1
 
 -- 6: the M-bit begins there and is 0, and no place since the O-bit holds anything

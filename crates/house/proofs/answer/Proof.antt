@@ -42,7 +42,8 @@ returns-2 c =
     let found = c .before .before .before .before .before .before .before in
     let kind = found .before .before .before .args .kind in
     let verdict = ap (told kind (found .read .result .values .place)) (c .before .before .before .before .before .verdict .given .1) in
-    sent (sym (ap (answerTo kind) (found .read .ensures)) ∙ verdict ∙ sym (with-room (length (found .before .before .before .args .out .now)) _ (omega arith))) (c .before .before .refuse-at .ensures)
+    let room = with-room (length (found .before .before .before .args .out .now)) _ (omega arith) in
+    sent (sym (ap (answerTo kind) (found .read .ensures)) ∙ verdict ∙ sym room) (c .before .before .refuse-at .ensures)
 
 pub answer-spec : {M : Type 1} → statement M
 answer-spec =

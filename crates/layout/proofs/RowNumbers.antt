@@ -2,8 +2,8 @@
 -- 7 is the M-bit; 6 a row of no bits behind it; 5 a row of no bits behind a bit of yes and no; every other is an element whose refusal is 4.
 -- Assumes nothing.
 use Prim.Native.Nat.{ℕ, zero, suc, _+_, _-_, _<_}
-use mathlib.Core.Path.{_≡_, refl, ap, sym, _∙_}
-use mathlib.Core.Bool.{Bool, true, false, cond}
+use mathlib.Core.Path.{_≡_, refl, ap, _∙_}
+use mathlib.Core.Bool.{cond}
 use mathlib.Core.List.{List, [], _∷_, tail, map}
 use native.Mathlib.Nat.{add-zero}
 use native.Mathlib.Omega.{arith}
@@ -31,22 +31,22 @@ placeOf (atLeast q v ∷ more) = q
 placeOf (nothingSince q ∷ more) = q
 
 -- refusal 5 behind the yes and no at the place `given`, where an earlier one at the place `related` is no too
-abbrev pub neither : ℕ → ℕ → Row
-neither related given = cond (ltb related given) (refuse NoGroup 1 (is given No ∷ is related No ∷ [])) nothing
+abbrev pub neitherRow : ℕ → ℕ → Row
+neitherRow related given = cond (ltb related given) (refuse NoGroup 1 (is given No ∷ is related No ∷ [])) nothing
 
 -- the row at the place k, as its number says it is; and the row before it, and the one behind it
-abbrev pub sorted : ℕ → Row → Row → Row → Row
-sorted k last r more =
+abbrev pub byNumber : ℕ → Row → Row → Row → Row
+byNumber k last r more =
     cond (eqb (numberAt r) 7) (mBit (placeOf (r .hang)))
     (cond (eqb (numberAt r) 6) (followed (placeOf (r .hang)))
-    (cond (eqb (numberAt r) 5) (neither (placeOf (tail (r .hang))) (k - 1))
+    (cond (eqb (numberAt r) 5) (neitherRow (placeOf (tail (r .hang))) (k - 1))
     (row (r .width) (r .first) (r .codes) Reserved 0 (r .hang))))
 
-abbrev pub sortedLast : ℕ → Row → Row → Row → Row
-sortedLast k last r more = cond (eqb (numberAt r) 6) (mBit (placeOf (r .hang))) (cond (eqb (numberAt r) 5) (choice 1 2 []) last)
+abbrev pub lastByNumber : ℕ → Row → Row → Row → Row
+lastByNumber k last r more = cond (eqb (numberAt r) 6) (mBit (placeOf (r .hang))) (cond (eqb (numberAt r) 5) (choice 1 2 []) last)
 
-abbrev pub sortedNext : ℕ → Row → Row → Row → Row
-sortedNext k last r more = cond (eqb (numberAt r) 7) (followed (placeOf (r .hang))) more
+abbrev pub nextByNumber : ℕ → Row → Row → Row → Row
+nextByNumber k last r more = cond (eqb (numberAt r) 7) (followed (placeOf (r .hang))) more
 
 -- what is said of each row, with its place, the row before it and the one behind it
 abbrev each : (ℕ → Row → Row → Row → Row) → ℕ → Row → List Row → List Row
@@ -62,10 +62,12 @@ at-each f g k last [] e i place h p = absurd (omega arith)
 at-each f g k last (r ∷ l) e zero place h p = rw (p ∙ add-zero k) (ap (λ (rs : List Row). getD rs 0 nothing) e)
 at-each f g k last (r ∷ l) e (suc i) place h p = at-each f g (suc k) r l (ap tail e) i place (omega arith) (omega arith)
 
-module _ (f g : ℕ → Row → Row → Row → Row) (same : map (λ kind. each f 0 nothing (rows kind)) kinds ≡ map (λ kind. each g 0 nothing (rows kind)) kinds) where
-  by-kind : (kind : Kind) (k : ℕ) → k < length (rows kind) → said f k nothing (rows kind) k ≡ said g k nothing (rows kind) k
-  by-kind kind k inside =
-      at-each f g 0 nothing (rows kind) (every-same (λ kind. each f 0 nothing (rows kind)) (λ kind. each g 0 nothing (rows kind)) same kind) k k inside (omega arith)
+abbrev eachOf : (ℕ → Row → Row → Row → Row) → Kind → List Row
+eachOf f kind = each f 0 nothing (rows kind)
+
+by-kind : (f g : ℕ → Row → Row → Row → Row) → map (eachOf f) kinds ≡ map (eachOf g) kinds
+    → (kind : Kind) (k : ℕ) → k < length (rows kind) → said f k nothing (rows kind) k ≡ said g k nothing (rows kind) k
+by-kind f g same kind k inside = at-each f g 0 nothing (rows kind) (every-same (eachOf f) (eachOf g) same kind) k k inside (omega arith)
 
 abbrev itself : ℕ → Row → Row → Row → Row
 itself k last r more = r
@@ -76,14 +78,14 @@ theLast k last r more = last
 abbrev theNext : ℕ → Row → Row → Row → Row
 theNext k last r more = more
 
-pub row-sorted : (kind : Kind) (k : ℕ) → k < length (rows kind) → said itself k nothing (rows kind) k ≡ said sorted k nothing (rows kind) k
+pub row-by-number : (kind : Kind) (k : ℕ) → k < length (rows kind) → said itself k nothing (rows kind) k ≡ said byNumber k nothing (rows kind) k
 unfolding rows unrolled rowsOf repeated span spans tableOf
-row-sorted = by-kind itself sorted refl
+row-by-number = by-kind itself byNumber refl
 
-pub last-sorted : (kind : Kind) (k : ℕ) → k < length (rows kind) → said theLast k nothing (rows kind) k ≡ said sortedLast k nothing (rows kind) k
+pub last-by-number : (kind : Kind) (k : ℕ) → k < length (rows kind) → said theLast k nothing (rows kind) k ≡ said lastByNumber k nothing (rows kind) k
 unfolding rows unrolled rowsOf repeated span spans tableOf
-last-sorted = by-kind theLast sortedLast refl
+last-by-number = by-kind theLast lastByNumber refl
 
-pub next-sorted : (kind : Kind) (k : ℕ) → k < length (rows kind) → said theNext k nothing (rows kind) k ≡ said sortedNext k nothing (rows kind) k
+pub next-by-number : (kind : Kind) (k : ℕ) → k < length (rows kind) → said theNext k nothing (rows kind) k ≡ said nextByNumber k nothing (rows kind) k
 unfolding rows unrolled rowsOf repeated span spans tableOf
-next-sorted = by-kind theNext sortedNext refl
+next-by-number = by-kind theNext nextByNumber refl
