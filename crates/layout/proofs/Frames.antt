@@ -5,7 +5,7 @@ use mathlib.Core.Path.{_≡_, refl, ap, _∙_, subst}
 use mathlib.Core.Bool.{Bool, true, false, cond, not, _&&_}
 use mathlib.Core.List.{List, [], _∷_, _++_, append-assoc}
 use native.Mathlib.Omega.{arith}
-use borrow.Author.Tests.{le-ltb, ltb-false, leb-true, le-leb, eqb-true, eq-eqb}
+use borrow.Author.Tests.{le-ltb, ltb-true, ltb-false, leb-true, le-leb, eqb-true, eqb-false, eq-eqb}
 use lib.Dec.{T, ltb, eqb, leb, ltb→lt}
 use lib.ListN.{length, take, drop, replicate, length-append, length-drop}
 use lib.Seq.{take-append-seam, take-at, drop-at, drop-drop, length-take-le}
@@ -85,7 +85,7 @@ fields-drop j k bits long =
     rw (append-assoc, ← drop-drop k j bits, digits-drop k (drop j bits) second, digits-drop j bits first)
 
 -- the bits of a frame begin with its head
-pub head-drop : (kind : Kind) (bits : List Bool) → 10 ≤ length bits → value (take 6 bits) ≡ ssType → value (take 4 (drop 6 bits)) ≡ actionType kind
+head-drop : (kind : Kind) (bits : List Bool) → 10 ≤ length bits → value (take 6 bits) ≡ ssType → value (take 4 (drop 6 bits)) ≡ actionType kind
     → head kind ++ drop 10 bits ≡ bits
 unfolding head
 head-drop kind bits long first second = rw (first, second) at (fields-drop 6 4 bits long)
@@ -95,25 +95,38 @@ unfolding write clean valid
 after-head kind bits more (refused n at) e i = tt
 after-head kind bits more (frame s) e i = rw (i .joined) (record { written = rw (i .same) e; cleaned = i .clean; validated = i .valid })
 
-comes : (kind : Kind) (bits : List Bool) → Read kind bits (read kind bits)
+-- what holds of a frame's reading, by its head: cut short, another kind's, or its own
+pub by-head : (kind : Kind) (bits : List Bool) (P : Answer → Type 0) → (length bits < 6 → P (refused EndsInside 0))
+    → (6 ≤ length bits → length bits < 10 → P (refused EndsInside 6))
+    → (10 ≤ length bits → (value (take 6 bits) ≡ ssType → ⊥) → P (refused WrongKind 0))
+    → (10 ≤ length bits → value (take 6 bits) ≡ ssType → (value (take 4 (drop 6 bits)) ≡ actionType kind → ⊥) → P (refused WrongKind 6))
+    → (head kind ++ drop 10 bits ≡ bits → P (readRows (rows kind) [] 10 (drop 10 bits)))
+    → P (read kind bits)
 unfolding read
-comes kind bits =
-    go (ltb (length bits) 6) (ltb (length bits) 10) (eqb (value (take 6 bits)) ssType) (eqb (value (take 4 (drop 6 bits))) (actionType kind))
-    (λ long first second.
-    after-head kind bits (drop 10 bits) (readRows (rows kind) [] 10 (drop 10 bits))
-    (head-drop kind bits (ltb-false _ _ long) (eqb-true _ _ first) (eqb-true _ _ second))
-    (sound (rows kind) [] 10 (drop 10 bits)))
+by-head kind bits P one two three four five =
+    go (ltb (length bits) 6) (ltb (length bits) 10) (eqb ss ssType) (eqb action (actionType kind)) refl refl refl refl
   where
-    go : (a b c d : Bool) → (b ≡ false → c ≡ true → d ≡ true → Read kind bits (readRows (rows kind) [] 10 (drop 10 bits)))
-        → Read kind bits
+    ss : ℕ
+    ss = value (take 6 bits)
+
+    action : ℕ
+    action = value (take 4 (drop 6 bits))
+
+    go : (a b c d : Bool) → ltb (length bits) 6 ≡ a → ltb (length bits) 10 ≡ b → eqb ss ssType ≡ c → eqb action (actionType kind) ≡ d
+        → P
         (cond a (refused EndsInside 0)
         (cond b (refused EndsInside 6)
         (cond (not c) (refused WrongKind 0) (cond (not d) (refused WrongKind 6) (readRows (rows kind) [] 10 (drop 10 bits))))))
-    go true b c d k = tt
-    go false true c d k = tt
-    go false false false d k = tt
-    go false false true false k = tt
-    go false false true true k = k refl refl refl
+    go true b c d p q s t = one (ltb-true _ _ p)
+    go false true c d p q s t = two (ltb-false _ _ p) (ltb-true _ _ q)
+    go false false false d p q s t = three (ltb-false _ _ q) (eqb-false ss ssType s)
+    go false false true false p q s t = four (ltb-false _ _ q) (eqb-true ss ssType s) (eqb-false action (actionType kind) t)
+    go false false true true p q s t = five (head-drop kind bits (ltb-false _ _ q) (eqb-true ss ssType s) (eqb-true action (actionType kind) t))
+
+comes : (kind : Kind) (bits : List Bool) → Read kind bits (read kind bits)
+comes kind bits =
+    by-head kind bits (Read kind bits) (λ short. tt) (λ long short. tt) (λ long wrong. tt) (λ long right wrong. tt)
+    (λ headed. after-head kind bits (drop 10 bits) (readRows (rows kind) [] 10 (drop 10 bits)) headed (sound (rows kind) [] 10 (drop 10 bits)))
 
 pub write-read : (kind : Kind) (bits : List Bool) (s : List ℕ) → read kind bits ≡ frame s → Comes kind bits s
 write-read kind bits s e = subst (Read kind bits) e (comes kind bits)

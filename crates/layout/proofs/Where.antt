@@ -6,24 +6,23 @@ use mathlib.Core.Bool.{Bool, true, false, cond, not, _&&_}
 use mathlib.Core.List.{List, [], _∷_, _++_, append-assoc, tail}
 use native.Mathlib.Nat.{sub-zero}
 use native.Mathlib.Omega.{arith}
-use borrow.Author.Tests.{ltb-true, ltb-false, eqb-true, eqb-false}
+use borrow.Author.Tests.{ltb-true, ltb-false, eqb-true}
 use lib.Dec.{eqb, ltb}
 use lib.ListN.{length, take, drop, getD, length-append, List·getD-append}
 use lib.Seq.{drop-nil, take-suc, take-at, getD-at, length-take-le}
 use Rattle.refusal.specs.declared.Refusal.{Refusal}
-use Rattle.refusal.specs.declared.Refusal.the-variants.{EndsInside, WrongKind, Reserved, NoGroup}
+use Rattle.refusal.specs.declared.Refusal.the-variants.{EndsInside, Reserved, NoGroup}
 use Rattle.bits.specs.Bits.{digits, value}
 use Rattle.bits.proofs.Laws.{length-digits}
 use Rattle.layout.specs.declared.Kind.{Kind}
 use Rattle.layout.specs.Row.{is, Row, all, present, nothing, bare, there}
 use Rattle.layout.specs.Shape.{row, choice, refuse, No}
 use Rattle.layout.specs.Read.{Answer, frame, refused, Turn, took, stop, turn, readRows}
-use Rattle.layout.specs.Kinds.{ssType, actionType}
 use Rattle.layout.specs.Frame.{rows, head, read}
 use Rattle.layout.specs.Where.{Begins, Cut, ssTypeCut, actionTypeCut, rowCut, PastEnd, ssTypeWrong, actionTypeWrong}
 use Rattle.layout.specs.Where.{NoMeaning, NotGiven, mBit, AtMBit, Empty, Refuses, one, two, three, four, five, six, seven}
 use Rattle.layout.proofs.Tests.{both-true}
-use Rattle.layout.proofs.Frames.{read-head, head-drop}
+use Rattle.layout.proofs.Frames.{read-head, by-head}
 use Rattle.layout.proofs.Readings.{holds-0, followed}
 use Rattle.layout.proofs.Passing.{length-read, Last, last-row, Halts, halted, remained, Stopped, stops}
 use Rattle.layout.proofs.RowNumbers.{numberAt, placeOf, neitherRow, row-by-number, last-by-number}
@@ -253,8 +252,8 @@ unfolding head
 head-length kind = simp (length-append, length-digits)
 
 -- a frame that ends before its bits do
-past-end : {kind : Kind} {bits : List Bool} {at k : ℕ} {done : List ℕ} {rest : List Bool} → Begins kind bits at k done rest → take k (rows kind) ≡ rows kind
-    → (b : Bool) (more : List Bool) → rest ≡ b ∷ more → PastEnd kind bits at
+past-end : {kind : Kind} {bits : List Bool} {at k : ℕ} {done : List ℕ} {rest : List Bool} → Begins kind bits at k done rest
+    → take k (rows kind) ≡ rows kind → (b : Bool) (more : List Bool) → rest ≡ b ∷ more → PastEnd kind bits at
 past-end {kind} {bits} {at} {done = done} {rest = rest} begun all b more e =
     let front = head kind ++ begun .front in
     let size : length front ≡ at = omega (arith, begun .bit, length-append (head kind) (begun .front), head-length kind) in
@@ -290,28 +289,10 @@ after-head kind bits headed (refused n at) q = go (q .halts)
     go (remained all b more e d place) = two d (subst (PastEnd kind bits) (sym place) (past-end begun all b more e))
 
 told : (kind : Kind) (bits : List Bool) → Told kind bits (read kind bits)
-unfolding read
-told kind bits = go (ltb (length bits) 6) (ltb (length bits) 10) (eqb ss ssType) (eqb action (actionType kind)) refl refl refl refl
-  where
-    ss : ℕ
-    ss = value (take 6 bits)
-
-    action : ℕ
-    action = value (take 4 (drop 6 bits))
-
-    go : (a b c d : Bool) → ltb (length bits) 6 ≡ a → ltb (length bits) 10 ≡ b → eqb ss ssType ≡ c → eqb action (actionType kind) ≡ d
-        → Told kind bits
-        (cond a (refused EndsInside 0)
-        (cond b (refused EndsInside 6)
-        (cond (not c) (refused WrongKind 0) (cond (not d) (refused WrongKind 6) (readRows (rows kind) [] 10 (drop 10 bits))))))
-    go true b c d p q s t = one refl (ssTypeCut refl (ltb-true _ _ p))
-    go false true c d p q s t = one refl (actionTypeCut refl (ltb-false _ _ p) (ltb-true _ _ q))
-    go false false false d p q s t = three refl (ssTypeWrong refl (ltb-false _ _ q) (eqb-false ss ssType s))
-    go false false true false p q s t =
-        three refl (actionTypeWrong refl (ltb-false _ _ q) (eqb-true ss ssType s) (eqb-false action (actionType kind) t))
-    go false false true true p q s t =
-        after-head kind bits (head-drop kind bits (ltb-false _ _ q) (eqb-true ss ssType s) (eqb-true action (actionType kind) t))
-        (readRows (rows kind) [] 10 (drop 10 bits)) (stops (rows kind) [] 10 (drop 10 bits))
+told kind bits =
+    by-head kind bits (Told kind bits) (λ short. one refl (ssTypeCut refl short)) (λ long short. one refl (actionTypeCut refl long short))
+    (λ long wrong. three refl (ssTypeWrong refl long wrong)) (λ long right wrong. three refl (actionTypeWrong refl long right wrong))
+    (λ headed. after-head kind bits headed (readRows (rows kind) [] 10 (drop 10 bits)) (stops (rows kind) [] 10 (drop 10 bits)))
 
 -- every refusal of the reader is as P2 says
 pub refused-so : (kind : Kind) (bits : List Bool) (n : Refusal) (at : ℕ) → read kind bits ≡ refused n at → Refuses kind bits n at
