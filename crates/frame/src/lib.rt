@@ -23,7 +23,7 @@ pub fn blank() -> Record
     }
 }
 
-// Reads a frame of `bits` bits: the record, or the refusal and a record of 0s.
+// Reads a frame of `bits` bits: the record, or the refusal with its bit and a record of 0s.
 pub fn read(kind: Kind, frame: &[u8], bits: usize) -> Reading
     ensures { λ r. ⌜ r ≡ readingOf kind (now (frame .entry)) bits ⌝ }
 {

@@ -1,5 +1,5 @@
 -- What the tables say of every record that has a frame, and so of every record that is read: a choice or a list is there exactly where its conditions
--- hold, and an O-bit that nothing can follow is 0.
+-- hold, and an O-bit that nothing can follow is 0. And whose refusal 5 is.
 -- Assumes nothing.
 use Prim.Native.Nat.{ℕ, zero, suc, _≤_, _<_}
 use mathlib.Core.Path.{_≡_, refl, ap, sym, subst, _∙_}

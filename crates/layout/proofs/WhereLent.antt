@@ -1,7 +1,7 @@
 -- Where a frame in lent bytes is bad: the same of what the reader answers, and that its bit is no further than the frame's end.
 -- Assumes nothing.
 use Prim.Native.Nat.{ℕ, _*_, _≤_}
-use mathlib.Core.Path.{_≡_, refl, ap, subst}
+use mathlib.Core.Path.{_≡_, refl, ap, sym, _∙_, subst}
 use mathlib.Core.Bool.{Bool, true, false, cond}
 use mathlib.Core.List.{List, _++_}
 use native.Mathlib.Omega.{arith}
@@ -81,3 +81,17 @@ module _ (kind : Kind) (bytes : List ℕ) (count : ℕ) where
     bit-within (countTooLarge more e f) = omega arith
     bit-within (inTheBits enough r) =
         omega (arith, refuses-within r, length-take-le count (bitsOf bytes) (omega (arith, length-bitsOf bytes)))
+
+  -- so P2 leaves one number and one bit
+  abbrev numberIn : Verdict → Refusal
+  numberIn verdict.Frame = EndsInside
+  numberIn (verdict.Refused n at) = n
+
+  abbrev bitIn : Verdict → ℕ
+  bitIn verdict.Frame = 0
+  bitIn (verdict.Refused n at) = at
+
+  pub one-answer : (n m : Refusal) (at bit : ℕ) → RefusedIn kind bytes count n at → RefusedIn kind bytes count m bit → (n ≡ m) × (at ≡ bit)
+  one-answer n m at bit p q =
+      let same = sym (in-refused n at p) ∙ in-refused m bit q in
+      (ap numberIn same, ap bitIn same)

@@ -1,4 +1,4 @@
--- What the reader and the writer answer, case by case, in document 01's terms: the number, 0 where it is accepted, and the values.
+-- What the reader and the writer answer, case by case, in document 01's terms: the number, 0 where it is accepted, and the values, or the bit of a refusal.
 -- Assumes nothing.
 use Prim.Native.Nat.{ℕ}
 use mathlib.Core.List.{List, [], _∷_}

@@ -1,4 +1,5 @@
--- What an answer says in document 01's terms: its number, 0 where it is accepted, and its values. A refusal returns the number alone.
+-- What an answer says in document 01's terms: its number, 0 where it is accepted, and its values. A refusal returns the number alone, the reader's
+-- its bit too (document 02, P2).
 use Prim.Native.Nat.{ℕ}
 use mathlib.Core.List.{List, []}
 use Rattle.refusal.specs.declared.Refusal.{Refusal}
