@@ -1,4 +1,4 @@
-// Echoes house text: for each line of standard input A and the line made anew, or R and the refusal's number.
+// Echoes house text: for each line of standard input A and the line made anew, or R, the refusal's number and its bit.
 use house::echo_line;
 use libc::STDERR_FILENO;
 use libc::STDIN_FILENO;

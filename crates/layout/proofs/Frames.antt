@@ -85,7 +85,7 @@ fields-drop j k bits long =
     rw (append-assoc, ← drop-drop k j bits, digits-drop k (drop j bits) second, digits-drop j bits first)
 
 -- the bits of a frame begin with its head
-head-drop : (kind : Kind) (bits : List Bool) → 10 ≤ length bits → value (take 6 bits) ≡ ssType → value (take 4 (drop 6 bits)) ≡ actionType kind
+pub head-drop : (kind : Kind) (bits : List Bool) → 10 ≤ length bits → value (take 6 bits) ≡ ssType → value (take 4 (drop 6 bits)) ≡ actionType kind
     → head kind ++ drop 10 bits ≡ bits
 unfolding head
 head-drop kind bits long first second = rw (first, second) at (fields-drop 6 4 bits long)

@@ -2,11 +2,11 @@
 -- Assumes nothing.
 use Prim.Native.Nat.{ℕ, suc, _+_, _-_, _*_, _≤_, _<_}
 use mathlib.Core.Path.{_≡_, refl, ap, ap₂, sym, _∙_, subst}
-use mathlib.Core.Bool.{Bool, true, false, cond, not}
+use mathlib.Core.Bool.{Bool, false}
 use mathlib.Core.List.{List, [], _∷_, _++_}
 use native.Mathlib.Omega.{arith}
-use borrow.Author.Tests.{lt-ltb, le-ltb, eq-eqb, ne-eqb}
-use lib.Dec.{T, eqb, ltb}
+use borrow.Author.Tests.{lt-ltb, le-ltb}
+use lib.Dec.{T}
 use lib.ListN.{length, take, drop, getD, replicate, length-drop, take-append-drop, drop-of-length-le}
 use lib.Seq.{drop-cons, getD-drop, length-take-le}
 use Rattle.refusal.specs.declared.Refusal.{Refusal}
@@ -22,6 +22,9 @@ use Rattle.layout.specs.Read.{frame, refused, readRows}
 use Rattle.layout.specs.Shape.{rowsOf, span, unrolled}
 use Rattle.layout.specs.Kinds.{tableOf, ssType, actionType}
 use Rattle.layout.specs.Frame.{places, rows, read, readBytes, asReading, readingOf}
+use Rattle.layout.specs.Where.{ssTypeCut, actionTypeCut, ssTypeWrong, actionTypeWrong, one, three}
+use Rattle.layout.proofs.Frames.{read-head, head-drop}
+use Rattle.layout.proofs.WhereExact.{so-refused}
 use Rattle.table.specs.Coding.{hangOf, shapeOf, placesOf}
 use Rattle.table.specs.Lines.{firstLine, past, lineNumber}
 use Rattle.table.specs.Sound.{Clear, sound}
@@ -131,40 +134,30 @@ module _ {kind : Kind} {begin end : ℕ} (own : Own kind begin end) {bits : List
         ap asReading (last ∙ done)
         ∙ ap (λ (l : List ℕ). record { verdict = verdict.Frame; values = record { place = l } }) whole-record
 
--- ---- the head
+-- ---- the head, by what a frame's bits say of it
 module _ (kind : Kind) (bytes : List ℕ) (count : ℕ) (lent : count ≤ 8 * length bytes) where
   size : length (whole bytes count) ≡ count
   size = whole-length bytes count lent
 
-  under : (n : ℕ) → count < n → ltb (length (whole bytes count)) n ≡ true
-  under n h = lt-ltb (length (whole bytes count)) n (omega (arith, size))
-
-  from : (n : ℕ) → n ≤ count → ltb (length (whole bytes count)) n ≡ false
-  from n h = le-ltb (length (whole bytes count)) n (omega (arith, size))
-
   pub head-cut : count < 6 → read kind (whole bytes count) ≡ refused EndsInside 0
-  unfolding read
-  head-cut h = rw (under 6 h)
+  head-cut h = so-refused kind (whole bytes count) EndsInside 0 (one refl (ssTypeCut refl (omega (arith, size))))
 
   pub head-short : 6 ≤ count → count < 10 → read kind (whole bytes count) ≡ refused EndsInside 6
-  unfolding read
-  head-short l h = rw (from 6 l, under 10 h)
+  head-short l h = so-refused kind (whole bytes count) EndsInside 6 (one refl (actionTypeCut refl (omega (arith, size)) (omega (arith, size))))
 
   module _ (l : 10 ≤ count) (ss action : ℕ) (s : ss ≡ value (take 6 (whole bytes count))) (a : action ≡ value (take 4 (drop 6 (whole bytes count)))) where
-    long : read kind (whole bytes count)
-        ≡ cond (not (eqb ss ssType)) (refused WrongKind 0)
-        (cond (not (eqb action (actionType kind))) (refused WrongKind 6) (readRows (rows kind) [] 10 (drop 10 (whole bytes count))))
-    unfolding read
-    long = rw (from 6 (omega arith), from 10 l, ← s, ← a)
+    long : 10 ≤ length (whole bytes count)
+    long = omega (arith, size)
 
     pub head-type : (ss ≡ ssType → ⊥) → read kind (whole bytes count) ≡ refused WrongKind 0
-    head-type h = long ∙ rw (ne-eqb ss ssType h)
+    head-type h = so-refused kind (whole bytes count) WrongKind 0 (three refl (ssTypeWrong refl long (λ e. h (s ∙ e))))
 
     pub head-action : ss ≡ ssType → (action ≡ actionType kind → ⊥) → read kind (whole bytes count) ≡ refused WrongKind 6
-    head-action e h = long ∙ rw (eq-eqb ss ssType e, ne-eqb action (actionType kind) h)
+    head-action e h = so-refused kind (whole bytes count) WrongKind 6 (three refl (actionTypeWrong refl long (sym s ∙ e) (λ f. h (a ∙ f))))
 
     pub head-good : ss ≡ ssType → action ≡ actionType kind → read kind (whole bytes count) ≡ readRows (rows kind) [] 10 (drop 10 (whole bytes count))
-    head-good e h = long ∙ rw (eq-eqb ss ssType e, eq-eqb action (actionType kind) h)
+    head-good e f =
+        ap (read kind) (sym (head-drop kind (whole bytes count) long (sym s ∙ e) (sym a ∙ f))) ∙ read-head kind (drop 10 (whole bytes count))
 
 -- ---- the whole
 pub reading-lent : (kind : Kind) (bytes : List ℕ) (count : ℕ) → 8 * length bytes < count → asReading (refused EndsInside 0) ≡ readingOf kind bytes count
