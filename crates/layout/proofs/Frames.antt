@@ -44,13 +44,17 @@ action-fits kind = ltb→lt _ _ (every-test (λ kind. ltb (actionType kind) (2 ^
 whole-head : (n : ℕ) (a : Answer) → 10 ≤ n → cond (ltb n 6) (refused EndsInside 0) (cond (ltb n 10) (refused EndsInside 6) a) ≡ a
 whole-head n a long = rw (le-ltb n 6 (omega arith), le-ltb n 10 long)
 
+pub head-length : (kind : Kind) → length (head kind) ≡ 10
+unfolding head
+head-length kind = simp (length-append, length-digits)
+
 -- after its kind's head a frame is read row by row
 pub read-head : (kind : Kind) (bits : List Bool) → read kind (head kind ++ bits) ≡ readRows (rows kind) [] 10 bits
 unfolding read head
 read-head kind bits =
     let action = digits 4 (actionType kind) in
     let whole = (digits 6 ssType ++ action) ++ bits in
-    let ten : length (digits 6 ssType ++ action) ≡ 10 = simp (length-append, length-digits) in
+    let ten : length (digits 6 ssType ++ action) ≡ 10 = head-length kind in
     let long : 10 ≤ length whole = simp (length-append, length-digits) (omega arith) in
     let apart = append-assoc (digits 6 ssType) action bits in
     let first : value (take 6 whole) ≡ ssType =

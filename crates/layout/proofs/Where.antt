@@ -13,7 +13,6 @@ use lib.Seq.{drop-nil, take-suc, take-at, getD-at, length-take-le}
 use Rattle.refusal.specs.declared.Refusal.{Refusal}
 use Rattle.refusal.specs.declared.Refusal.the-variants.{EndsInside, Reserved, NoGroup}
 use Rattle.bits.specs.Bits.{digits, value}
-use Rattle.bits.proofs.Laws.{length-digits}
 use Rattle.layout.specs.declared.Kind.{Kind}
 use Rattle.layout.specs.Row.{is, Row, all, present, nothing, bare, there}
 use Rattle.layout.specs.Shape.{row, choice, refuse, No}
@@ -22,7 +21,7 @@ use Rattle.layout.specs.Frame.{rows, head, read}
 use Rattle.layout.specs.Where.{Begins, Cut, ssTypeCut, actionTypeCut, rowCut, PastEnd, ssTypeWrong, actionTypeWrong}
 use Rattle.layout.specs.Where.{NoMeaning, NotGiven, mBit, AtMBit, Empty, Refuses, one, two, three, four, five, six, seven}
 use Rattle.layout.proofs.Tests.{both-true}
-use Rattle.layout.proofs.Frames.{read-head, by-head}
+use Rattle.layout.proofs.Frames.{head-length, read-head, by-head}
 use Rattle.layout.proofs.Readings.{holds-0, followed}
 use Rattle.layout.proofs.Passing.{length-read, Last, last-row, Halts, halted, remained, Stopped, stops}
 use Rattle.layout.proofs.RowNumbers.{numberAt, placeOf, neitherRow, row-by-number, last-by-number}
@@ -247,10 +246,6 @@ module _ {kind : Kind} {bits : List Bool} {at : ℕ} {done : List ℕ} {rest : L
         go false false p q = bad (present done (rowOf kind k .hang)) refl (ltb-false _ _ p) (ltb-false _ _ q)
 
 -- ---- the whole frame
-pub head-length : (kind : Kind) → length (head kind) ≡ 10
-unfolding head
-head-length kind = simp (length-append, length-digits)
-
 -- a frame that ends before its bits do
 past-end : {kind : Kind} {bits : List Bool} {at k : ℕ} {done : List ℕ} {rest : List Bool} → Begins kind bits at k done rest
     → take k (rows kind) ≡ rows kind → (b : Bool) (more : List Bool) → rest ≡ b ∷ more → PastEnd kind bits at

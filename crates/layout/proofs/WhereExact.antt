@@ -22,10 +22,10 @@ use Rattle.layout.specs.Kinds.{ssType, actionType}
 use Rattle.layout.specs.Frame.{rows, head, read, laid, write}
 use Rattle.layout.specs.Where.{Begins, rowAt, Cut, ssTypeCut, actionTypeCut, rowCut, PastEnd, OtherKind, ssTypeWrong, actionTypeWrong}
 use Rattle.layout.specs.Where.{NotGiven, mBit, AtMBit, Empty, Refuses, one, two, three, four, five, six, seven}
-use Rattle.layout.proofs.Frames.{read-head, write-read}
+use Rattle.layout.proofs.Frames.{head-length, read-head, write-read}
 use Rattle.layout.proofs.Readings.{followed}
 use Rattle.layout.proofs.Passing.{length-read, pass}
-use Rattle.layout.proofs.Where.{head-length, getD-zero, zeros-zero}
+use Rattle.layout.proofs.Where.{getD-zero, zeros-zero}
 use Rattle.layout.proofs.RowNumbers.{lastByNumber, nextByNumber, row-by-number, last-by-number, next-by-number}
 
 -- a place at which something else stands than nothing is one of the list

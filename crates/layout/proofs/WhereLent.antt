@@ -20,7 +20,8 @@ use Rattle.layout.specs.Read.{Answer, frame, refused}
 use Rattle.layout.specs.Frame.{head, read, readBytes, asReading, readingOf}
 use Rattle.layout.specs.Where.{Begins, Cut, ssTypeCut, actionTypeCut, rowCut, OtherKind, ssTypeWrong, actionTypeWrong}
 use Rattle.layout.specs.Where.{Refuses, one, two, three, four, five, six, seven, RefusedIn, countTooLarge, inTheBits}
-use Rattle.layout.proofs.Where.{head-length, refused-so}
+use Rattle.layout.proofs.Frames.{head-length}
+use Rattle.layout.proofs.Where.{refused-so}
 use Rattle.layout.proofs.WhereExact.{so-refused}
 
 -- ---- the bit is one of the frame's, or the first past its end
