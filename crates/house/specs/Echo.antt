@@ -33,13 +33,17 @@ within space text = cond (leb 433 space) text []
 abbrev pub refused : Refusal → List ℕ
 refused refusal = 82 ∷ decimal (numberOf refusal)
 
+-- a number of 16 bits in two bytes
+abbrev pub twoBytes : ℕ → List ℕ
+twoBytes n = (n / 256 % 256) ∷ (n % 256) ∷ []
+
 -- R and the number, a blank, and the bit at which the refused element begins, in four digits
 abbrev pub refusedAt : Refusal → ℕ → List ℕ
-refusedAt refusal bit = refused refusal ++ (32 ∷ digitsOf ((bit / 256 % 256) ∷ (bit % 256) ∷ []))
+refusedAt refusal bit = refused refusal ++ (32 ∷ digitsOf (twoBytes bit))
 
 -- A and the line: kind, bit count, bytes
 abbrev pub taken : Kind → ℕ → List ℕ → List ℕ
-taken kind bits bytes = 65 ∷ digitsOf (kindNumber kind ∷ (bits / 256 % 256) ∷ (bits % 256) ∷ bytes)
+taken kind bits bytes = 65 ∷ digitsOf (kindNumber kind ∷ twoBytes bits ++ bytes)
 
 -- the bytes that the writer is lent for the longest frame
 abbrev pub room : List ℕ
