@@ -95,6 +95,17 @@ module _ (p : Placing) (laws : Lawful p) where
   run-within : (h : History) → Within (view (run p h)) (namedIn h)
   run-within h = subst (λ (w : World). Within w (namedIn h)) (sym (run-agree h)) (within-history h)
 
+  -- there are as many groups and pairs as the history says
+  pub groups-agree : (h : History) → length (run p h .groups) ≡ groupTotal (world h) (namedIn h .groups)
+  groups-agree h =
+      groups-total (run p h) (namedIn h) (run-within h) (groups-single p laws (run p h) (run-standing h))
+      ∙ ap (λ (w : World). groupTotal w (namedIn h .groups)) (run-agree h)
+
+  pub pairs-agree : (h : History) → length (run p h .pairs) ≡ pairTotal (world h) (namedIn h .groups) (namedIn h .radios)
+  pairs-agree h =
+      pairs-total (run p h) (namedIn h) (run-within h) (pairs-single p laws (run p h) (run-standing h))
+      ∙ ap (λ (w : World). pairTotal w (namedIn h .groups) (namedIn h .radios)) (run-agree h)
+
   -- every step's refusal is the history's
   pub refusal-agree : (h : History) (s : Step) → refused p (run p h) s ≡ refusalIn h s
   refusal-agree h s =
@@ -119,7 +130,3 @@ module _ (p : Placing) (laws : Lawful p) where
   show-agree h asker g =
       ap (λ (owners : List ℕ). showing (view (run p h)) asker g owners) (owners-agree (run p h) (namedIn h) (run-within h) (key g))
       ∙ ap (λ (w : World). showing w asker g (ownersIn w (namedIn h .owners) (key g))) (run-agree h)
-
--- two placings say the same
-pub same-world : (p q : Placing) → Lawful p → Lawful q → (h : History) → view (run p h) ≡ view (run q h)
-same-world p q a b h = run-agree p a h ∙ sym (run-agree q b h)

@@ -8,13 +8,13 @@ use lib.Dec.{eqb}
 use lib.ListN.{length}
 use native.Mathlib.Omega.{arith}
 use borrow.Author.Tests.{eqb-true}
-use Rattle.rules.specs.Lists.{present}
+use Rattle.rules.specs.Lists.{present, once}
 use Rattle.rules.specs.Entries.{find, alter}
 use Rattle.rules.specs.Ledger.{samePair}
-use Rattle.rules.specs.Placing.{LawfulPut, Lawful}
-use Rattle.rules.specs.Arrival.{put, arrival, byArrival}
+use Rattle.rules.specs.Placing.{LawfulPut, LawfulRoll, Lawful}
+use Rattle.rules.specs.Arrival.{put, arrival, listedRoll, byArrival}
 use Rattle.rules.proofs.Tests.{split}
-use Rattle.rules.proofs.ListLaws.{eqb-same}
+use Rattle.rules.proofs.ListLaws.{eqb-same, mem-once, once-once, unique-once}
 use Rattle.rules.proofs.EntryLaws.{flip-false, Single, single-alter, distinct-single, single-distinct}
 use Rattle.rules.proofs.Pairs.{pair-sound, pair-itself}
 
@@ -51,5 +51,17 @@ module _ {K X : Type 0} (same : K → K → Bool) (sound : (a b : K) → same a 
     counted = λ l k v h. length-put l k v;
   }
 
+listed-lawful : LawfulRoll listedRoll
+listed-lawful = record {
+  holds = mem-once;
+  stays = λ l. unique-once (once l) (once-once l);
+  single = λ l h. h;
+  counted = λ l. refl;
+}
+
 pub by-arrival : Lawful byArrival
-by-arrival = record { groups = arrival-lawful eqb eqb-true eqb-same; pairs = arrival-lawful samePair pair-sound pair-itself }
+by-arrival = record {
+  groups = arrival-lawful eqb eqb-true eqb-same;
+  pairs = arrival-lawful samePair pair-sound pair-itself;
+  owners = listed-lawful;
+}

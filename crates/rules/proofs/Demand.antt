@@ -7,7 +7,7 @@ use mathlib.Core.Option.{Option, none, some}
 use lib.Dec.{ltb, leb}
 use lib.ListN.{length}
 use borrow.Author.Tests.{le-ltb, not-true}
-use Rattle.rules.specs.Lists.{all, unique, present, mem, rising, Rising}
+use Rattle.rules.specs.Lists.{all, present, mem, rising, Rising}
 use Rattle.rules.specs.Number.{key, wide, wideKey}
 use Rattle.rules.specs.Parameters.{noParameters, badParameters}
 use Rattle.rules.specs.World.{World, ownersIn}
@@ -25,7 +25,7 @@ use Rattle.rules.proofs.Totals.{within-history, narrow}
 use Rattle.rules.proofs.Agree.{run-agree, list-agree, show-agree}
 use Rattle.rules.proofs.Ranges.{key-wide}
 use Rattle.rules.proofs.Written.{run-form}
-use Rattle.rules.proofs.Listing.{same-entries, entries-radios, entries-say}
+use Rattle.rules.proofs.Listing.{same-listed, entries-radios, entries-say}
 
 -- ---- the history's own list ----
 
@@ -51,20 +51,20 @@ module _ (p : Placing) (laws : Lawful p) (h : History) where
   owner-known g a = subst (λ (w : World). w .owner g a ≡ true → (wideKey a ≡ false) × (wideKey g ≡ false) × (w .stands g ≡ true))
       (run-agree p laws h) (known (group (run p h) g) (run-form p laws h .groups g))
     where
-      known : (o : Option Group) → ((x : Group) → o ≡ some x → goodGroup (g, x) ≡ true) → mem a (ownersOf o) ≡ true
+      known : (o : Option Group) → ((x : Group) → o ≡ some x → goodGroup p (g, x) ≡ true) → mem a (ownersOf o) ≡ true
           → (wideKey a ≡ false) × (wideKey g ≡ false) × (present o ≡ true)
       known none f e = clash (sym e)
       known (some x) f e =
           let k = f x refl in
           let few = ltb 0 (length (x .owners)) in
           let many = leb (length (x .owners)) maxOwners in
-          let apart = unique (x .owners) in
+          let apart = p .owners .form (x .owners) in
           let narrow = all (λ a. not (wideKey a)) (x .owners) in
           let bad = badParameters (x .parameters) in
-          let owners = and-l (goodOwners (x .owners)) (not bad) (and-r (not (wideKey g)) (goodOwners (x .owners) && not bad) k) in
+          let owners = and-l (goodOwners p (x .owners)) (not bad) (and-r (not (wideKey g)) (goodOwners p (x .owners) && not bad) k) in
           let all-narrow = and-r apart narrow (and-r many (apart && narrow) (and-r few (many && (apart && narrow)) owners)) in (
             not-true (wideKey a) (all-in (λ a. not (wideKey a)) a (x .owners) all-narrow e),
-            not-true (wideKey g) (and-l (not (wideKey g)) (goodOwners (x .owners) && not bad) k),
+            not-true (wideKey g) (and-l (not (wideKey g)) (goodOwners p (x .owners) && not bad) k),
             refl,
           )
 
@@ -115,4 +115,4 @@ module _ (p : Placing) (laws : Lawful p) (h : History) where
 
 -- only one list is exact
 pub exactly-unique : (h : History) (g : ℕ) (a b : List Entry) → Exactly h g a → Exactly h g b → a ≡ b
-exactly-unique h g a b p q = same-entries a b (p .rises) (q .rises) (λ x. p .says x ∙ sym (q .says x))
+exactly-unique h g a b p q = same-listed a b (p .rises) (q .rises) (λ x. p .says x ∙ sym (q .says x))

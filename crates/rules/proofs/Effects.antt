@@ -51,16 +51,16 @@ module _ (p : Placing) (laws : Lawful p) (l : Ledger) (s : Standing p l) (e : Ef
   pub standing-apply : Standing p (apply p l e)
   standing-apply = record {
     groups = form-puts eqb eqb-true eqb-same (p .groups) (laws .groups) (alter goes (l .groups)) (e .makes)
-        (λ g. groupAfter (e .keeps) (given e) (group l g)) left;
+        (λ g. groupAfter (e .keeps) (given p e) (group l g)) left;
     pairs = form-puts samePair pair-sound pair-itself (p .pairs) (laws .pairs) (alter turns (l .pairs)) (product (e .makes) (e .assigns)) (λ k. e .begins)
         turned-left;
   }
 
   pub group-after : (g : ℕ)
-      → group (apply p l e) g ≡ cond (mem g (e .makes)) (some (groupAfter (e .keeps) (given e) (group l g))) (cond (e .removes g) none (group l g))
+      → group (apply p l e) g ≡ cond (mem g (e .makes)) (some (groupAfter (e .keeps) (given p e) (group l g))) (cond (e .removes g) none (group l g))
   group-after g =
-      find-puts eqb eqb-true eqb-same (p .groups) (laws .groups) (alter goes (l .groups)) (e .makes) (λ g. groupAfter (e .keeps) (given e) (group l g)) left g
-      ∙ ap (λ (x : Option Group). cond (mem g (e .makes)) (some (groupAfter (e .keeps) (given e) (group l g))) x)
+      find-puts eqb eqb-true eqb-same (p .groups) (laws .groups) (alter goes (l .groups)) (e .makes) (λ g. groupAfter (e .keeps) (given p e) (group l g)) left g
+      ∙ ap (λ (x : Option Group). cond (mem g (e .makes)) (some (groupAfter (e .keeps) (given p e) (group l g))) x)
       (find-alter eqb eqb-true goes (l .groups) g (groups-single p laws l s) ∙ gone (e .removes g) (group l g))
     where
       gone : (b : Bool) (x : Option Group) → turned (λ x. cond b none (some x)) x ≡ cond b none x
@@ -79,9 +79,9 @@ module _ (p : Placing) (laws : Lawful p) (l : Ledger) (s : Standing p l) (e : Ef
       (λ b. cc (group-after g, made (group l g)))
       (λ b. split (e .removes g) (λ c. cc (group-after g)) (λ c. cc (group-after g)))
     where
-      made : (x : Option Group) → mem a (ownersAfter (e .keeps) (given e) x) ≡ cond (present x && e .keeps) (mem a (ownersOf x)) (mem a (e .owners))
-      made none = refl
-      made (some x) = split (e .keeps) (λ k. cc) (λ k. cc)
+      made : (x : Option Group) → mem a (ownersAfter (e .keeps) (given p e) x) ≡ cond (present x && e .keeps) (mem a (ownersOf x)) (mem a (e .owners))
+      made none = laws .owners .holds a (e .owners)
+      made (some x) = split (e .keeps) (λ k. cc) (λ k. cc (laws .owners .holds a (e .owners)))
 
   parameters-after : (g : ℕ) → parametersOf (group (apply p l e) g) ≡ after (view l) e .parameters g
   parameters-after g = split (mem g (e .makes))

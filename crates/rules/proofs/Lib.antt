@@ -5,6 +5,9 @@ pub mod Walks
 pub mod Pairs
 pub mod Puts
 pub mod Arrival
+pub mod Rises
+pub mod ByKey
+pub mod ByNumber
 pub mod Effects
 pub mod Totals
 pub mod Agree
@@ -12,6 +15,7 @@ pub mod Ranges
 pub mod Written
 pub mod Listing
 pub mod Demand
+pub mod Alike
 pub mod Anew
 pub mod LawOrder
 pub mod Steps

@@ -66,7 +66,7 @@ keep-other : (x : ℕ) (l : List ℕ) → mem x l ≡ false → keep (λ y. not 
 keep-other x [] h = refl
 keep-other x (y ∷ l) h = split (eqb x y) (λ e. clash (cc)) (λ e. cc (keep-other x l (cc)))
 
-once-same : (l : List ℕ) → Once l → once l ≡ l
+pub once-same : (l : List ℕ) → Once l → once l ≡ l
 once-same [] o = refl
 once-same (x ∷ l) o = cc (once-same l (o .1), keep-other x l (o .0))
 

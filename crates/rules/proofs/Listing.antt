@@ -1,57 +1,39 @@
--- The list that a walk over the pairs makes is the list of the rules; and only one rising list says the same of every radio.
-use Prim.Native.Nat.{ℕ, _≤_, _<_}
+-- A group's stretch of rising pairs is the list of the rules; and only one rising list says the same of every radio.
+use Prim.Native.Nat.{ℕ}
 use mathlib.Core.Path.{_≡_, refl, sym, _∙_, ap, subst}
-use mathlib.Core.Bool.{Bool, false, cond}
+use mathlib.Core.Bool.{Bool, true, cond}
 use mathlib.Core.List.{List, [], _∷_}
 use mathlib.Core.Option.{Option, none, some}
 use lib.Dec.{eqb, ltb}
-use native.Mathlib.Omega.{arith}
-use borrow.Author.Tests.{eqb-true, ltb-true, ltb-false, ne-eqb}
-use Rattle.rules.specs.Lists.{present, insertBy, inOrder, mem, Above, Rising}
+use borrow.Author.Tests.{eqb-true, lt-ltb}
+use Rattle.rules.specs.Lists.{present, rises, mem, Above, Rising}
 use Rattle.rules.specs.Entries.{find}
 use Rattle.rules.specs.Mark.{Mark, stateOf}
 use Rattle.rules.specs.World.{World}
 use Rattle.rules.specs.Replies.{Entry, entries}
 use Rattle.rules.specs.Ledger.{Pair, samePair, Ledger, view, radiosOf, members}
-use Rattle.rules.specs.Listing.{gathered, listedIn}
+use Rattle.rules.specs.ByNumber.{lower, belowPair}
+use Rattle.rules.specs.Listing.{gathered}
 use Rattle.rules.specs.Demand.{told, entryRadios}
-use Rattle.rules.proofs.Tests.{split, clash}
-use Rattle.rules.proofs.ListLaws.{eqb-same, mem-rising, rising-order, rising-rising, above-trans}
-use Rattle.rules.proofs.EntryLaws.{Single, once-keys}
+use Rattle.rules.proofs.Tests.{split}
+use Rattle.rules.proofs.ListLaws.{mem-rising, rising-rising}
+use Rattle.rules.proofs.Rises.{Over, Climbs}
+use Rattle.rules.proofs.ByKey.{key-climbs, same-entries}
+use Rattle.rules.proofs.ByNumber.{numbers-linear, pairs-linear, above-radio}
 use Rattle.rules.proofs.Totals.{mem-radios}
 
 -- ---- rising entries go by what is found ----
 
-above-none : (x : ℕ) (l : List Entry) → Above x (entryRadios l) → find eqb l x ≡ none
-above-none x [] a = refl
-above-none x (e ∷ l) a = cc (ne-eqb x (e .0) (apart x (e .0) (a .0)), above-none x l (a .1))
+climbs-entries : (l : List Entry) → Rising (entryRadios l) → Climbs (lower ltb) l
+climbs-entries [] r = tt
+climbs-entries (e ∷ l) r = (over l (r .0), climbs-entries l (r .1))
   where
-    apart : (x y : ℕ) → x < y → x ≡ y → ⊥
-    apart x y h q = omega arith
+    over : (l : List Entry) → Above (e .0) (entryRadios l) → Over (lower ltb) e l
+    over [] a = tt
+    over (x ∷ l) a = (lt-ltb (e .0) (x .0) (a .0), over l (a .1))
 
-pub same-entries : (a b : List Entry) → Rising (entryRadios a) → Rising (entryRadios b) → ((x : ℕ) → find eqb a x ≡ find eqb b x) → a ≡ b
-same-entries [] [] r s h = refl
-same-entries [] (y ∷ b) r s h = clash (cc (h (y .0), eqb-same (y .0)))
-same-entries (x ∷ a) [] r s h = clash (cc (h (x .0), eqb-same (x .0)))
-same-entries (x ∷ a) (y ∷ b) r s h =
-    split (ltb (x .0) (y .0))
-    (λ e. let l = ltb-true (x .0) (y .0) e in
-    clash (cc (h (x .0), eqb-same (x .0), above-none (x .0) (y ∷ b) (l, above-trans (x .0) (y .0) (entryRadios b) l (s .0)))))
-    (λ e. split (ltb (y .0) (x .0))
-    (λ f. let l = ltb-true (y .0) (x .0) f in
-    clash (cc (h (y .0), eqb-same (y .0), above-none (y .0) (x ∷ a) (l, above-trans (y .0) (x .0) (entryRadios a) l (r .0)))))
-    (λ f. let q = equal (x .0) (y .0) (ltb-false (x .0) (y .0) e) (ltb-false (y .0) (x .0) f) in
-    let v : x .1 ≡ y .1 = cc (h (x .0), eqb-same (x .0)) in
-    let t = same-entries a b (r .1) (s .1) (tails q) in
-    λ i. (q i, v i) ∷ t i))
-  where
-    equal : (x y : ℕ) → y ≤ x → x ≤ y → x ≡ y
-    equal x y h k = omega arith
-
-    tails : x .0 ≡ y .0 → (z : ℕ) → find eqb a z ≡ find eqb b z
-    tails q z = split (eqb z (x .0))
-        (λ e. cc (eqb-true z (x .0) e, above-none (x .0) a (r .0), above-none (y .0) b (s .0)))
-        (λ e. cc (h z))
+pub same-listed : (a b : List Entry) → Rising (entryRadios a) → Rising (entryRadios b) → ((x : ℕ) → find eqb a x ≡ find eqb b x) → a ≡ b
+same-listed a b r s = same-entries numbers-linear a b (climbs-entries a r) (climbs-entries b s)
 
 -- ---- the entries of the rules ----
 
@@ -73,35 +55,7 @@ pub entries-say : (w : World) (g : ℕ) (radios : List ℕ) → ((r : ℕ) → m
 entries-say w g radios h r =
     entries-find w g r radios ∙ ap (λ (b : Bool). cond b (some (stateOf (w .mark g r))) none) (h r) ∙ told-is (w .mark g r)
 
--- ---- entries put in order ----
-
-abbrev radioOf : Entry → ℕ
-radioOf e = e .0
-
-find-insert : (x : Entry) (l : List Entry) (r : ℕ) → present (find eqb l (x .0)) ≡ false
-    → find eqb (insertBy radioOf x l) r ≡ cond (eqb r (x .0)) (some (x .1)) (find eqb l r)
-find-insert x [] r n = refl
-find-insert x (z ∷ l) r n = split (ltb (x .0) (z .0))
-    (λ e. cc)
-    (λ e. split (eqb (x .0) (z .0))
-    (λ f. clash (cc))
-    (λ f. split (eqb r (z .0))
-    (λ q. split (eqb r (x .0))
-    (λ p. clash (sym (eqb-same r) ∙ cc (eqb-true r (z .0) q, eqb-true r (x .0) p)))
-    (λ p. cc))
-    (λ q. cc (find-insert x l r (cc)))))
-
-find-order : (l : List Entry) → Single eqb l → (r : ℕ) → find eqb (inOrder radioOf l) r ≡ find eqb l r
-find-order [] s r = refl
-find-order (e ∷ l) s r =
-    find-insert e (inOrder radioOf l) r (ap present (find-order l (s .1) (e .0)) ∙ s .0)
-    ∙ ap (λ (o : Option ℕ). cond (eqb r (e .0)) (some (e .1)) o) (find-order l (s .1) r)
-
--- ---- the walk's list ----
-
-present-told : (m : Option Mark) → present (told m) ≡ present m
-present-told none = refl
-present-told (some m) = refl
+-- ---- a group's stretch ----
 
 gathered-find : (g : ℕ) (l : List (Pair × Mark)) (r : ℕ) → find eqb (gathered g l) r ≡ told (find samePair l (g, r))
 gathered-find g [] r = refl
@@ -109,20 +63,32 @@ gathered-find g (e ∷ l) r = split (eqb g (e .0 .0))
     (λ a. split (eqb r (e .0 .1)) (λ b. cc) (λ b. cc (gathered-find g l r)))
     (λ a. cc (gathered-find g l r))
 
-gathered-single : (g : ℕ) (l : List (Pair × Mark)) → Single samePair l → Single eqb (gathered g l)
-gathered-single g [] s = tt
-gathered-single g (e ∷ l) s = split (eqb g (e .0 .0))
-    (λ a. rw a (
-      ap present (gathered-find g l (e .0 .1)) ∙ present-told (find samePair l (g, e .0 .1))
-          ∙ ap (λ (x : ℕ). present (find samePair l (x, e .0 .1))) (eqb-true g (e .0 .0) a) ∙ s .0,
-      gathered-single g l (s .1),
-    ))
-    (λ a. rw a (gathered-single g l (s .1)))
+-- rising pairs have each group's radios rising
+over-gathered : (g : ℕ) (x : Pair × Mark) (l : List (Pair × Mark)) → eqb g (x .0 .0) ≡ true → Over (lower belowPair) x l
+    → Above (x .0 .1) (entryRadios (gathered g l))
+over-gathered g x [] q h = tt
+over-gathered g x (e ∷ l) q h = split (eqb g (e .0 .0))
+    (λ a. rw a (above-radio (x .0) (e .0) (sym (eqb-true g (x .0 .0) q) ∙ eqb-true g (e .0 .0) a) (h .0), over-gathered g x l q (h .1)))
+    (λ a. rw a (over-gathered g x l q (h .1)))
 
--- where no pair stands twice, the walk makes the list of the rules
-pub listed-members : (l : Ledger) (g : ℕ) → Single samePair (l .pairs) → listedIn g (l .pairs) ≡ entries (view l) (members l g) g
-listed-members l g s = same-entries (listedIn g (l .pairs)) (entries (view l) (members l g) g)
-    (rising-order radioOf (gathered g (l .pairs)) (once-keys (gathered g (l .pairs)) (gathered-single g (l .pairs) s)))
+pub gathered-rising : (g : ℕ) (l : List (Pair × Mark)) → Climbs (lower belowPair) l → Rising (entryRadios (gathered g l))
+gathered-rising g [] c = tt
+gathered-rising g (e ∷ l) c = split (eqb g (e .0 .0))
+    (λ a. rw a (over-gathered g e l a (c .0), gathered-rising g l (c .1)))
+    (λ a. rw a (gathered-rising g l (c .1)))
+
+-- so its stretch is the list of the rules
+pub listed-members : (l : Ledger) (g : ℕ) → rises (lower belowPair) (l .pairs) ≡ true → gathered g (l .pairs) ≡ entries (view l) (members l g) g
+listed-members l g s = same-listed (gathered g (l .pairs)) (entries (view l) (members l g) g)
+    (gathered-rising g (l .pairs) (key-climbs pairs-linear (l .pairs) s))
     (subst Rising (sym (entries-radios (view l) g (members l g))) (rising-rising (radiosOf g (l .pairs))))
-    (λ r. find-order (gathered g (l .pairs)) (gathered-single g (l .pairs) s) r ∙ gathered-find g (l .pairs) r
+    (λ r. gathered-find g (l .pairs) r
     ∙ sym (entries-say (view l) g (members l g) (λ r. mem-rising r (radiosOf g (l .pairs)) ∙ mem-radios g r (l .pairs)) r))
+
+gathered-radios : (g : ℕ) (l : List (Pair × Mark)) → entryRadios (gathered g l) ≡ radiosOf g l
+gathered-radios g [] = refl
+gathered-radios g (e ∷ l) = split (eqb g (e .0 .0)) (λ a. cc (gathered-radios g l)) (λ a. cc (gathered-radios g l))
+
+-- and its radios are the members
+pub stretch-members : (l : Ledger) (g : ℕ) → rises (lower belowPair) (l .pairs) ≡ true → radiosOf g (l .pairs) ≡ members l g
+stretch-members l g s = sym (gathered-radios g (l .pairs)) ∙ ap entryRadios (listed-members l g s) ∙ entries-radios (view l) g (members l g)

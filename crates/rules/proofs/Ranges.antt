@@ -12,9 +12,10 @@ use Rattle.rules.specs.Lists.{any, mem, once}
 use Rattle.rules.specs.Number.{Identity, Numbers, count, used, key, numbers, numbersIn, wide, wideKey, badIdentity, badList, untaken}
 use Rattle.rules.specs.Parameters.{Parameters, over, replaced, tooLarge, badName, badParameters}
 use Rattle.rules.specs.Mark.{Mark, waiting, T1, begun, ticked}
+use Rattle.rules.specs.Placing.{Placing, Lawful}
 use Rattle.rules.specs.Written.{goodOwners, maxOwners, goodMark}
 use Rattle.rules.proofs.Tests.{split, clash, and-in, or-l, or-r, not-in}
-use Rattle.rules.proofs.ListLaws.{mem-once, once-once, unique-once, all-mem, length-once, any-no}
+use Rattle.rules.proofs.ListLaws.{mem-once, once-once, once-same, all-mem, length-once, any-no}
 
 -- ---- numbers ----
 
@@ -70,14 +71,24 @@ numbers-few (some n) b =
 
 -- ---- owners ----
 
-pub owners-good : (asker : ℕ) (l : List ℕ) → wideKey asker ≡ false → length l ≤ 10 → ((x : ℕ) → mem x l ≡ true → wideKey x ≡ false)
-    → goodOwners (once (asker ∷ l)) ≡ true
-owners-good asker l a h n =
-    and-in (lt-ltb 0 (length (once (asker ∷ l))) (omega arith))
-    (and-in (le-leb (length (once (asker ∷ l))) maxOwners (let k = length-once (asker ∷ l) in omega arith))
-    (and-in (unique-once (once (asker ∷ l)) (once-once (asker ∷ l)))
-    (all-mem (λ a. not (wideKey a)) (once (asker ∷ l)) (λ x e. not-in (wideKey x) (each x (sym (mem-once x (asker ∷ l)) ∙ e))))))
+-- the asker and at most ten others, entered by a lawful placing
+pub owners-good : (p : Placing) → Lawful p → (asker : ℕ) (l : List ℕ) → wideKey asker ≡ false → length l ≤ 10
+    → ((x : ℕ) → mem x l ≡ true → wideKey x ≡ false) → goodOwners p (p .owners .entered (once (asker ∷ l))) ≡ true
+owners-good p laws asker l a h n =
+    and-in (lt-ltb 0 (length os) (omega (arith, counts)))
+    (and-in (le-leb (length os) maxOwners (let k = length-once (asker ∷ l) in omega (arith, counts)))
+    (and-in (laws .owners .stays given)
+    (all-mem (λ a. not (wideKey a)) os (λ x e. not-in (wideKey x) (each x (sym (mem-once x (asker ∷ l)) ∙ sym (laws .owners .holds x given) ∙ e))))))
   where
+    given : List ℕ
+    given = once (asker ∷ l)
+
+    os : List ℕ
+    os = p .owners .entered given
+
+    counts : length os ≡ length given
+    counts = laws .owners .counted given ∙ ap length (once-same given (once-once (asker ∷ l)))
+
     each : (x : ℕ) → mem x (asker ∷ l) ≡ true → wideKey x ≡ false
     each x e = split (eqb x asker) (λ f. ap wideKey (eqb-true x asker f) ∙ a) (λ f. n x (cc))
 

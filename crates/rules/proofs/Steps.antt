@@ -35,8 +35,8 @@ module _ (p : Placing) (laws : Lawful p) (l : Ledger) (s : Standing p l) (o : De
   abbrev pairs : List Pair
   pairs = product (defineGroups o) (defineRadios o)
 
-  made : apply p l e .groups ≡ puts (p .groups) (l .groups) (defineGroups o) (λ g. groupAfter (e .keeps) (given e) (group l g))
-  made = ap (λ (k : List (ℕ × Group)). puts (p .groups) k (defineGroups o) (λ g. groupAfter (e .keeps) (given e) (group l g))) (alter-all (l .groups))
+  made : apply p l e .groups ≡ puts (p .groups) (l .groups) (defineGroups o) (λ g. groupAfter (e .keeps) (given p e) (group l g))
+  made = ap (λ (k : List (ℕ × Group)). puts (p .groups) k (defineGroups o) (λ g. groupAfter (e .keeps) (given p e) (group l g))) (alter-all (l .groups))
 
   set : apply p l e .pairs ≡ puts (p .pairs) (l .pairs) pairs (λ k. begun (o .acknowledgement))
   set = ap (λ (k : List (Pair × Mark)). puts (p .pairs) k pairs (λ k. begun (o .acknowledgement))) (alter-all (l .pairs))
@@ -44,11 +44,11 @@ module _ (p : Placing) (laws : Lawful p) (l : Ledger) (s : Standing p l) (o : De
   -- one group after the other, each made from what stands at its turn
   pub define-lists : apply p l (effect (view l) (define o room)) ≡ record {
     groups = putsNow (p .groups) eqb (l .groups) (defineGroups o)
-        (groupAfter ((effect (view l) (define o room)) .keeps) (given (effect (view l) (define o room))));
+        (groupAfter ((effect (view l) (define o room)) .keeps) (given p (effect (view l) (define o room))));
     pairs = puts (p .pairs) (l .pairs) (product (defineGroups o) (defineRadios o)) (λ k. begun (o .acknowledgement));
   }
   define-lists =
-      let now = puts-now eqb eqb-true eqb-same (p .groups) (laws .groups) (l .groups) (defineGroups o) (groupAfter (e .keeps) (given e)) (s .groups)
+      let now = puts-now eqb eqb-true eqb-same (p .groups) (laws .groups) (l .groups) (defineGroups o) (groupAfter (e .keeps) (given p e)) (s .groups)
       (numbers-once (o .groups)) in
       λ i. record { groups = (made ∙ now) i; pairs = set i }
 
@@ -57,7 +57,7 @@ module _ (p : Placing) (laws : Lawful p) (l : Ledger) (s : Standing p l) (o : De
       ≡ length (l .groups) + length (keep (λ g. not (present (group l g))) (defineGroups o))
   define-groups-total =
       ap length made
-      ∙ length-puts eqb eqb-true eqb-same (p .groups) (laws .groups) (l .groups) (defineGroups o) (λ g. groupAfter (e .keeps) (given e) (group l g)) (s .groups)
+      ∙ length-puts eqb eqb-true eqb-same (p .groups) (laws .groups) (l .groups) (defineGroups o) (λ g. groupAfter (e .keeps) (given p e) (group l g)) (s .groups)
       (numbers-once (o .groups))
 
   pub define-pairs-total : length (apply p l (effect (view l) (define o room)) .pairs)

@@ -36,7 +36,7 @@ pub record Form (p : Placing) (l : Ledger) : Type 0 where
   pub standing : Standing p l
   pub few-groups : length (l .groups) ≤ maxGroups
   pub few-pairs : length (l .pairs) ≤ maxPairs
-  pub groups : (g : ℕ) (x : Group) → group l g ≡ some x → goodGroup (g, x) ≡ true
+  pub groups : (g : ℕ) (x : Group) → group l g ≡ some x → goodGroup p (g, x) ≡ true
   pub marks : (g r : ℕ) (m : Mark) → find samePair (l .pairs) (g, r) ≡ some m → (wideKey r ≡ false) × (goodMark m ≡ true)
   pub there : (g r : ℕ) → present (find samePair (l .pairs) (g, r)) ≡ true → present (group l g) ≡ true
 
@@ -47,7 +47,7 @@ module _ (p : Placing) (laws : Lawful p) (l : Ledger) where
       (and-in (le-leb (length (l .pairs)) maxPairs (f .few-pairs))
       (and-in (f .standing .groups)
       (and-in (f .standing .pairs)
-      (and-in (all-found eqb eqb-true eqb-same goodGroup (l .groups) (groups-single p laws l (f .standing)) (f .groups))
+      (and-in (all-found eqb eqb-true eqb-same (goodGroup p) (l .groups) (groups-single p laws l (f .standing)) (f .groups))
       (all-found samePair pair-sound pair-itself (goodPair l) (l .pairs) (pairs-single p laws l (f .standing))
       (λ k m e. let q = f .marks (k .0) (k .1) m e in
       and-in (not-in (wideKey (k .1)) (q .0)) (and-in (q .1) (f .there (k .0) (k .1) (cc)))))))))
@@ -59,7 +59,7 @@ module _ (p : Placing) (l : Ledger) where
       let fewPairs = leb (length (l .pairs)) maxPairs in
       let groupsStand = p .groups .form (l .groups) in
       let pairsStand = p .pairs .form (l .pairs) in
-      let goodGroups = all goodGroup (l .groups) in
+      let goodGroups = all (goodGroup p) (l .groups) in
       let goodPairs = all (goodPair l) (l .pairs) in
       let good = goodGroups && goodPairs in
       let h₁ = and-r fewGroups (fewPairs && (groupsStand && (pairsStand && good))) h in
@@ -70,7 +70,7 @@ module _ (p : Placing) (l : Ledger) where
         standing = record { groups = and-l groupsStand (pairsStand && good) h₂; pairs = and-l pairsStand good h₃ };
         few-groups = leb-true (length (l .groups)) maxGroups (and-l fewGroups (fewPairs && (groupsStand && (pairsStand && good))) h);
         few-pairs = leb-true (length (l .pairs)) maxPairs (and-l fewPairs (groupsStand && (pairsStand && good)) h₁);
-        groups = found-all eqb eqb-true goodGroup (l .groups) (and-l goodGroups goodPairs h₄);
+        groups = found-all eqb eqb-true (goodGroup p) (l .groups) (and-l goodGroups goodPairs h₄);
         marks = λ g r m e. let q = pair g r m (and-r goodGroups goodPairs h₄) e in (
           not-true (wideKey r) (and-l (not (wideKey r)) (goodMark m && present (group l g)) q),
           and-l (goodMark m) (present (group l g)) (and-r (not (wideKey r)) (goodMark m && present (group l g)) q),
@@ -89,28 +89,28 @@ module _ (p : Placing) (l : Ledger) where
 
 -- ---- what an effect needs so that the form stays ----
 
-abbrev GoodOption : Option Group → Type 0
-GoodOption none = Unit {0}
-GoodOption (some x) = (goodOwners (x .owners) ≡ true) × (badParameters (x .parameters) ≡ false)
+abbrev GoodOption : Placing → Option Group → Type 0
+GoodOption p none = Unit {0}
+GoodOption p (some x) = (goodOwners p (x .owners) ≡ true) × (badParameters (x .parameters) ≡ false)
 
-replaced-fit : (e : Effect) (x : Option Group) → badParameters (e .parameters) ≡ false → GoodOption x
+replaced-fit : (p : Placing) (e : Effect) (x : Option Group) → badParameters (e .parameters) ≡ false → GoodOption p x
     → badParameters (replaced (e .parameters) (parametersOf x)) ≡ false
-replaced-fit e none p k = replaced-good (e .parameters) noParameters p refl
-replaced-fit e (some x) p k = replaced-good (e .parameters) (x .parameters) p (k .1)
+replaced-fit p e none h k = replaced-good (e .parameters) noParameters h refl
+replaced-fit p e (some x) h k = replaced-good (e .parameters) (x .parameters) h (k .1)
 
-good-option : (p : Placing) (l : Ledger) → Form p l → (g : ℕ) → GoodOption (group l g)
+good-option : (p : Placing) (l : Ledger) → Form p l → (g : ℕ) → GoodOption p (group l g)
 good-option p l f g = go (group l g) (f .groups g)
   where
-    go : (o : Option Group) → ((x : Group) → o ≡ some x → goodGroup (g, x) ≡ true) → GoodOption o
+    go : (o : Option Group) → ((x : Group) → o ≡ some x → goodGroup p (g, x) ≡ true) → GoodOption p o
     go none h = tt
     go (some x) h =
-        let k = and-r (not (wideKey g)) (goodOwners (x .owners) && not (badParameters (x .parameters))) (h x refl) in (
-          and-l (goodOwners (x .owners)) (not (badParameters (x .parameters))) k,
-          not-true (badParameters (x .parameters)) (and-r (goodOwners (x .owners)) (not (badParameters (x .parameters))) k),
+        let k = and-r (not (wideKey g)) (goodOwners p (x .owners) && not (badParameters (x .parameters))) (h x refl) in (
+          and-l (goodOwners p (x .owners)) (not (badParameters (x .parameters))) k,
+          not-true (badParameters (x .parameters)) (and-r (goodOwners p (x .owners)) (not (badParameters (x .parameters))) k),
         )
 
 record Fit (p : Placing) (l : Ledger) (e : Effect) : Type 0 where
-  makes : (g : ℕ) → mem g (e .makes) ≡ true → (wideKey g ≡ false) × (goodOwners (e .owners) ≡ true)
+  makes : (g : ℕ) → mem g (e .makes) ≡ true → (wideKey g ≡ false) × (goodOwners p (p .owners .entered (e .owners)) ≡ true)
   parameters : badParameters (e .parameters) ≡ false
   assigns : (r : ℕ) → mem r (e .assigns) ≡ true → wideKey r ≡ false
   begins : goodMark (e .begins) ≡ true
@@ -120,7 +120,7 @@ record Fit (p : Placing) (l : Ledger) (e : Effect) : Type 0 where
   few-pairs : length (apply p l e .pairs) ≤ maxPairs
 
 module _ (p : Placing) (laws : Lawful p) (l : Ledger) (f : Form p l) (e : Effect) (fit : Fit p l e) where
-  group-then : (g : ℕ) → group (apply p l e) g ≡ cond (mem g (e .makes)) (some (groupAfter (e .keeps) (given e) (group l g)))
+  group-then : (g : ℕ) → group (apply p l e) g ≡ cond (mem g (e .makes)) (some (groupAfter (e .keeps) (given p e) (group l g)))
       (cond (e .removes g) none (group l g))
   group-then = group-after p laws l (f .standing) e
 
@@ -143,15 +143,15 @@ module _ (p : Placing) (laws : Lawful p) (l : Ledger) (f : Form p l) (e : Effect
         (λ a. stay g r a (find samePair (l .pairs) (g, r)) refl (cc (mark-then g r)));
   }
     where
-      made : (g : ℕ) (x : Group) → mem g (e .makes) ≡ true → some (groupAfter (e .keeps) (given e) (group l g)) ≡ some x → goodGroup (g, x) ≡ true
+      made : (g : ℕ) (x : Group) → mem g (e .makes) ≡ true → some (groupAfter (e .keeps) (given p e) (group l g)) ≡ some x → goodGroup p (g, x) ≡ true
       made g x a k =
-          let q : groupAfter (e .keeps) (given e) (group l g) ≡ x = cc in
+          let q : groupAfter (e .keeps) (given p e) (group l g) ≡ x = cc in
           let good = good-option p l f g in
-          sym (ap (λ (y : Group). goodGroup (g, y)) q) ∙ and-in (not-in (wideKey g) (fit .makes g a .0)) (and-in
+          sym (ap (λ (y : Group). goodGroup p (g, y)) q) ∙ and-in (not-in (wideKey g) (fit .makes g a .0)) (and-in
           (owners (group l g) good)
-          (not-in (badParameters (replaced (e .parameters) (parametersOf (group l g)))) (replaced-fit e (group l g) (fit .parameters) good)))
+          (not-in (badParameters (replaced (e .parameters) (parametersOf (group l g)))) (replaced-fit p e (group l g) (fit .parameters) good)))
         where
-          owners : (x : Option Group) → GoodOption x → goodOwners (ownersAfter (e .keeps) (given e) x) ≡ true
+          owners : (x : Option Group) → GoodOption p x → goodOwners p (ownersAfter (e .keeps) (given p e) x) ≡ true
           owners none k = fit .makes g a .1
           owners (some x) k = split (e .keeps) (λ b. rw b (k .0)) (λ b. rw b (fit .makes g a .1))
 
@@ -181,7 +181,7 @@ none-refused : (r : Option Refusal) → accepted r ≡ true → r ≡ none
 none-refused none e = refl
 none-refused (some r) e = clash (sym e)
 
-module _ (p : Placing) where
+module _ (p : Placing) (laws : Lawful p) where
   define-fit : (l : Ledger) (o : Define) (room : ℕ) → refused p l (define o room) ≡ none → Fit p l (effect (view l) (define o room))
   define-fit l o room e =
       let l′ = apply p l (effect (view l) (define o room)) in
@@ -202,7 +202,7 @@ module _ (p : Placing) where
         makes = λ g k. (
           numbers-narrow (o .groups) (or-l (badList (o .groups)) (badList (o .owners) || (badList (o .radios) || badParameters (o .parameters))) b₁)
               (or-l (untaken (o .groups)) (untaken (o .owners) || untaken (o .radios)) u₁) g k,
-          owners-good (key (o .asker)) (numbersIn (o .owners)) (key-wide (o .asker) ∙ asker) (numbers-few (o .owners) badOwners)
+          owners-good p laws (key (o .asker)) (numbersIn (o .owners)) (key-wide (o .asker) ∙ asker) (numbers-few (o .owners) badOwners)
               (numbers-narrow (o .owners) badOwners (or-l (untaken (o .owners)) (untaken (o .radios)) u₂)),
         );
         parameters = or-r (badList (o .radios)) (badParameters (o .parameters)) b₃;
@@ -261,7 +261,7 @@ module _ (p : Placing) where
 module _ (p : Placing) (laws : Lawful p) where
   step-form : (l : Ledger) (s : Step) → Form p l → Form p (step p l s)
   step-form l s f = split (accepted (refused p l s))
-      (λ e. rw e (form-apply p laws l f (effect (view l) s) (step-fit p l f s (none-refused (refused p l s) e))))
+      (λ e. rw e (form-apply p laws l f (effect (view l) s) (step-fit p laws l f s (none-refused (refused p l s) e))))
       (λ e. rw e f)
 
   -- every step keeps the written form, on any ledger that has it

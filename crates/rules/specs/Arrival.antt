@@ -2,9 +2,10 @@
 use mathlib.Core.Bool.{Bool, cond}
 use mathlib.Core.List.{List, [], _∷_}
 use lib.Dec.{eqb}
+use Rattle.rules.specs.Lists.{unique, once}
 use Rattle.rules.specs.Entries.{distinct}
 use Rattle.rules.specs.Ledger.{samePair}
-use Rattle.rules.specs.Placing.{Put, Placing}
+use Rattle.rules.specs.Placing.{Put, Roll, Placing}
 
 module _ {K X : Type 0} (same : K → K → Bool) where
   -- a key's value replaced at its place, or a new entry at the end
@@ -15,5 +16,9 @@ module _ {K X : Type 0} (same : K → K → Bool) where
   abbrev pub arrival : Put K X
   arrival = record { put = put; form = distinct same }
 
+-- each once, as they were listed
+abbrev pub listedRoll : Roll
+listedRoll = record { entered = once; form = unique }
+
 abbrev pub byArrival : Placing
-byArrival = record { groups = arrival eqb; pairs = arrival samePair }
+byArrival = record { groups = arrival eqb; pairs = arrival samePair; owners = listedRoll }

@@ -15,8 +15,10 @@ pub mod History
 pub mod Ledger
 pub mod Placing
 pub mod Arrival
+pub mod ByNumber
 pub mod Steps
 pub mod Listing
 pub mod Run
 pub mod Written
 pub mod Demand
+pub mod Alike

@@ -45,6 +45,17 @@ module _ {A : Type 0} where
   inOrder f [] = []
   inOrder f (x ∷ l) = insertBy f x (inOrder f l)
 
+module _ {A : Type 0} (below : A → A → Bool) where
+  -- x is below the first of the list
+  abbrev pub ahead : A → List A → Bool
+  ahead x [] = true
+  ahead x (y ∷ l) = below x y
+
+  -- each is below the next
+  abbrev pub rises : List A → Bool
+  rises [] = true
+  rises (x ∷ l) = ahead x l && rises l
+
 -- the number is in the list
 abbrev pub mem : ℕ → List ℕ → Bool
 mem x = any (eqb x)

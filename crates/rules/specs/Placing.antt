@@ -7,7 +7,7 @@ use mathlib.Core.List.{List, [], _∷_}
 use mathlib.Core.Option.{Option, some}
 use lib.Dec.{eqb}
 use lib.ListN.{length}
-use Rattle.rules.specs.Lists.{present}
+use Rattle.rules.specs.Lists.{present, mem, unique, once}
 use Rattle.rules.specs.Entries.{find, distinct, alter}
 use Rattle.rules.specs.Mark.{Mark}
 use Rattle.rules.specs.Ledger.{Group, Pair, samePair}
@@ -35,11 +35,26 @@ pub record LawfulPut {K X : Type 0} (same : K → K → Bool) (p : Put K X) : Ty
   -- there is one entry more where the key is new
   pub counted : (l : List (K × X)) (k : K) (v : X) → p .form l ≡ true → length (p .put l k v) ≡ length l + cond (present (find same l k)) 0 1
 
--- how a ledger puts its groups and its pairs
+-- the owners of a group. entered: those of a list, each once. form: how they stand
+pub record Roll : Type 0 where
+  pub entered : List ℕ → List ℕ
+  pub form : List ℕ → Bool
+
+pub record LawfulRoll (r : Roll) : Type 0 where
+  -- who is entered was listed, and who was listed is entered
+  pub holds : (a : ℕ) (l : List ℕ) → mem a (r .entered l) ≡ mem a l
+  pub stays : (l : List ℕ) → r .form (r .entered l) ≡ true
+  -- none is entered twice
+  pub single : (l : List ℕ) → r .form l ≡ true → unique l ≡ true
+  pub counted : (l : List ℕ) → length (r .entered l) ≡ length (once l)
+
+-- how a ledger puts its groups, its pairs, and the owners of a group
 pub record Placing : Type 0 where
   pub groups : Put ℕ Group
   pub pairs : Put Pair Mark
+  pub owners : Roll
 
 pub record Lawful (p : Placing) : Type 0 where
   pub groups : LawfulPut eqb (p .groups)
   pub pairs : LawfulPut samePair (p .pairs)
+  pub owners : LawfulRoll (p .owners)

@@ -18,9 +18,9 @@ use Rattle.rules.specs.Placing.{puts, Placing}
 
 -- ---- what an accepted step does ----
 
--- a group as the step gives it
-abbrev pub given : Effect → Group
-given e = record { owners = e .owners; parameters = e .parameters }
+-- a group as the step gives it, its owners as the placing has them
+abbrev pub given : Placing → Effect → Group
+given p e = record { owners = p .owners .entered (e .owners); parameters = e .parameters }
 
 -- whether a group that was there keeps its owners; the group as it is given; the group that was there
 abbrev pub ownersAfter : Bool → Group → Option Group → List ℕ
@@ -37,7 +37,7 @@ product groups radios = join (λ g. map (λ (r : ℕ). (g, r)) radios) groups
 -- groups go and pairs turn where they stand; what is made and assigned is put by the placing
 abbrev pub apply : Placing → Ledger → Effect → Ledger
 apply p l e = record {
-  groups = puts (p .groups) (alter (λ g x. cond (e .removes g) none (some x)) (l .groups)) (e .makes) (λ g. groupAfter (e .keeps) (given e) (group l g));
+  groups = puts (p .groups) (alter (λ g x. cond (e .removes g) none (some x)) (l .groups)) (e .makes) (λ g. groupAfter (e .keeps) (given p e) (group l g));
   pairs = puts (p .pairs) (alter (λ (k : Pair). e .turns (k .0) (k .1)) (l .pairs)) (product (e .makes) (e .assigns)) (λ k. e .begins);
 }
 

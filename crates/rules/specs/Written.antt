@@ -5,7 +5,7 @@ use mathlib.Core.Bool.{Bool, cond, not, _&&_}
 use mathlib.Core.List.{List}
 use lib.Dec.{eqb, ltb, leb}
 use lib.ListN.{length}
-use Rattle.rules.specs.Lists.{all, unique, present}
+use Rattle.rules.specs.Lists.{all, present}
 use Rattle.rules.specs.Number.{wideKey}
 use Rattle.rules.specs.Parameters.{badParameters}
 use Rattle.rules.specs.Mark.{Mark, waiting, unheard, T1}
@@ -17,11 +17,12 @@ use Rattle.rules.specs.Placing.{Placing}
 abbrev pub maxOwners : ℕ
 maxOwners = 11
 
-abbrev pub goodOwners : List ℕ → Bool
-goodOwners owners = ltb 0 (length owners) && (leb (length owners) maxOwners && (unique owners && all (λ a. not (wideKey a)) owners))
+-- no owner of a group twice: by the placing's form
+abbrev pub goodOwners : Placing → List ℕ → Bool
+goodOwners p owners = ltb 0 (length owners) && (leb (length owners) maxOwners && (p .owners .form owners && all (λ a. not (wideKey a)) owners))
 
-abbrev pub goodGroup : ℕ × Group → Bool
-goodGroup e = not (wideKey (e .0)) && (goodOwners (e .1 .owners) && not (badParameters (e .1 .parameters)))
+abbrev pub goodGroup : Placing → ℕ × Group → Bool
+goodGroup p e = not (wideKey (e .0)) && (goodOwners p (e .1 .owners) && not (badParameters (e .1 .parameters)))
 
 -- a waiting pair has 0 to 29 ticks, any other none
 abbrev pub goodMark : Mark → Bool
@@ -30,9 +31,9 @@ goodMark m = cond (eqb (m .state) waiting) (ltb (m .ticks) T1) (leb (m .state) u
 abbrev pub goodPair : Ledger → Pair × Mark → Bool
 goodPair l e = not (wideKey (e .0 .1)) && (goodMark (e .1) && present (group l (e .0 .0)))
 
--- no group and no pair twice: by the placing's form
+-- no group and no pair twice: by the placing's form, too
 abbrev pub written : Placing → Ledger → Bool
 written p l =
     leb (length (l .groups)) maxGroups && (leb (length (l .pairs)) maxPairs
     && (p .groups .form (l .groups) && (p .pairs .form (l .pairs)
-    && (all goodGroup (l .groups) && all (goodPair l) (l .pairs)))))
+    && (all (goodGroup p) (l .groups) && all (goodPair l) (l .pairs)))))
