@@ -1,5 +1,7 @@
 -- Laws of an order's lists and row.
 pub mod Walks
+pub mod Moves
+pub mod Sorting
 pub mod ListLaws
 pub mod KeyLaws
 pub mod Words

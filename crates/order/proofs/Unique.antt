@@ -20,10 +20,6 @@ use Rattle.order.proofs.keys.groups_in.Kinds as groups-in-kinds
 use Rattle.order.proofs.keys.groups_in.Reads as groups-in
 use Rattle.order.proofs.keys.radios_in.Kinds as radios-in-kinds
 use Rattle.order.proofs.keys.radios_in.Reads as radios-in
-use Rattle.order.proofs.keys.one_group.Kinds as one-group-kinds
-use Rattle.order.proofs.keys.one_group.Reads as one-group
-use Rattle.order.proofs.keys.one_radio.Kinds as one-radio-kinds
-use Rattle.order.proofs.keys.one_radio.Reads as one-radio
 use Rattle.order.proofs.keys.group_count.Kinds as group-count-kinds
 use Rattle.order.proofs.keys.group_count.Reads as group-count
 use Rattle.order.proofs.keys.radio_count.Kinds as radio-count-kinds
@@ -32,6 +28,10 @@ use Rattle.order.proofs.keys.group_at.Kinds as group-at-kinds
 use Rattle.order.proofs.keys.group_at.Reads as group-at
 use Rattle.order.proofs.keys.radio_at.Kinds as radio-at-kinds
 use Rattle.order.proofs.keys.radio_at.Reads as radio-at
+use Rattle.order.proofs.keys.groups_rising.Kinds as groups-rising-kinds
+use Rattle.order.proofs.keys.groups_rising.Reads as groups-rising
+use Rattle.order.proofs.keys.radios_rising.Kinds as radios-rising-kinds
+use Rattle.order.proofs.keys.radios_rising.Reads as radios-rising
 use Rattle.order.proofs.keys.owners_in.Kinds as owners-in-kinds
 use Rattle.order.proofs.keys.owners_in.Reads as owners-in
 use Rattle.order.proofs.record.lists_of.Kinds as lists-of-kinds
@@ -68,12 +68,6 @@ groups-in-unique κs a r r′ s s′ p q = p ∙ sym q
 pub radios-in-unique : Unique radios-in-kinds.ps radios-in-kinds.r radios-in.Post
 radios-in-unique κs a r r′ s s′ p q = p ∙ sym q
 
-pub one-group-unique : Unique one-group-kinds.ps one-group-kinds.r one-group.Post
-one-group-unique κs a r r′ s s′ p q = p ∙ sym q
-
-pub one-radio-unique : Unique one-radio-kinds.ps one-radio-kinds.r one-radio.Post
-one-radio-unique κs a r r′ s s′ p q = p ∙ sym q
-
 pub group-count-unique : Unique group-count-kinds.ps group-count-kinds.r group-count.Post
 group-count-unique κs a r r′ s s′ p q = p ∙ sym q
 
@@ -85,6 +79,12 @@ group-at-unique κs a r r′ s s′ p q = λ i. record { 0 = (p ∙ sym q) i }
 
 pub radio-at-unique : Unique radio-at-kinds.ps radio-at-kinds.r radio-at.Post
 radio-at-unique κs a r r′ s s′ p q = λ i. record { 0 = (p ∙ sym q) i }
+
+pub groups-rising-unique : Unique groups-rising-kinds.ps groups-rising-kinds.r groups-rising.Post
+groups-rising-unique κs a r r′ s s′ p q = p ∙ sym q
+
+pub radios-rising-unique : Unique radios-rising-kinds.ps radios-rising-kinds.r radios-rising.Post
+radios-rising-unique κs a r r′ s s′ p q = p ∙ sym q
 
 pub owners-in-unique : Unique owners-in-kinds.ps owners-in-kinds.r owners-in.Post
 owners-in-unique κs a r r′ s s′ p q = p ∙ sym q

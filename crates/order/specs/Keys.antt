@@ -1,9 +1,10 @@
 -- The keys of an order's lists, as they are handed on: how many, and they, in ten places (eleven for owners); the words past them are 0.
 use Prim.Native.Nat.{ℕ}
-use mathlib.Core.List.{List, _++_}
-use lib.ListN.{length, take, drop, replicate}
+use mathlib.Core.List.{List}
+use lib.ListN.{length, take, replicate}
 use Rattle.rules.specs.Written.{maxOwners}
 use Rattle.rows.specs.Layout.{maxListed}
+use Rattle.order.specs.Walks.{onto}
 use Rattle.order.specs.declared.KeyList.{KeyList}
 use Rattle.order.specs.declared.Groups.{Groups}
 use Rattle.order.specs.declared.Radios.{Radios}
@@ -11,7 +12,7 @@ use Rattle.order.specs.declared.Owners.{Owners}
 
 -- keys in n places
 abbrev pub placed : ℕ → List ℕ → List ℕ
-placed n keys = keys ++ drop (length keys) (replicate n 0)
+placed n keys = onto keys (replicate n 0)
 
 abbrev pub keysAs : List ℕ → KeyList
 keysAs keys = record { count = length keys; key = placed maxListed keys }

@@ -2,6 +2,7 @@
 pub mod Walks
 pub mod Lists
 pub mod Keys
+pub mod Rising
 pub mod Row
 pub mod Recorded
 pub mod Steps

@@ -11,6 +11,7 @@ use crate::RadioKey;
 use crate::Radios;
 use crate::lists::member;
 use crate::lists::used_count;
+use crate::rising::put_rising;
 use rows::MAX_LISTED;
 use rows::MAX_OWNERS;
 use rows::lesser;
@@ -20,10 +21,10 @@ ghost use lib.ListN.{length, getD};
 ghost use mathlib.Core.Bool.{not};
 ghost use mathlib.Core.List.{[], _∷_};
 ghost use mathlib.Core.Path.{_≡_};
-ghost use Rattle.rules.specs.Lists.{keep, once};
+ghost use Rattle.rules.specs.Lists.{keep, inOrder, rising};
 ghost use Rattle.rules.specs.Number.{key, numbers, numbersIn};
 ghost use Rattle.rows.specs.Layout.{maxListed};
-ghost use Rattle.order.specs.Keys.{keysAs, groupsAs, radiosAs, ownersAs, groupKeys, radioKeys};
+ghost use Rattle.order.specs.Keys.{keysAs, groupsAs, radiosAs, ownersAs, groupKeys, radioKeys, ownersHeld};
 ghost use Rattle.order.specs.Lists.{numbersAs, listOf};
 
 // A number as the ledger knows it: for now the SSI alone.
@@ -106,26 +107,6 @@ pub fn radios_in(list: Listed) -> Radios
     }
 }
 
-// One group as a list.
-pub fn one_group(group: GroupKey) -> Groups
-    ensures { λ r. ⌜ r ≡ groupsAs (group .0 ∷ []) ⌝ }
-{
-    Groups {
-        count: 1,
-        key: [group.0, 0, 0, 0, 0, 0, 0, 0, 0, 0],
-    }
-}
-
-// One radio as a list.
-pub fn one_radio(radio: RadioKey) -> Radios
-    ensures { λ r. ⌜ r ≡ radiosAs (radio .0 ∷ []) ⌝ }
-{
-    Radios {
-        count: 1,
-        key: [radio.0, 0, 0, 0, 0, 0, 0, 0, 0, 0],
-    }
-}
-
 // How many groups a list has.
 pub fn group_count(groups: Groups) -> usize
     ensures { λ r. ⌜ r ≡ length (groupKeys groups) ⌝ }
@@ -162,6 +143,28 @@ pub fn radio_at(radios: Radios, i: usize) -> RadioKey
     RadioKey(0)
 }
 
+// The groups of a list, rising.
+pub fn groups_rising(groups: Groups) -> Groups
+    ensures { λ r. ⌜ r ≡ groupsAs (inOrder (λ k. k) (groupKeys groups)) ⌝ }
+{
+    let named = groups.key;
+    let count = group_count(groups);
+    let mut key = [0u64; MAX_LISTED];
+    put_rising(&named[..count], &mut key);
+    Groups { count, key }
+}
+
+// The radios of a list, rising.
+pub fn radios_rising(radios: Radios) -> Radios
+    ensures { λ r. ⌜ r ≡ radiosAs (inOrder (λ k. k) (radioKeys radios)) ⌝ }
+{
+    let named = radios.key;
+    let count = radio_count(radios);
+    let mut key = [0u64; MAX_LISTED];
+    put_rising(&named[..count], &mut key);
+    Radios { count, key }
+}
+
 // The asker, then the keys that differ from him.
 fn with_asker(asker: RadioKey, listed: &[u64]) -> Owners
     requires { ⌜ length (now listed) ≤ maxListed ⌝ }
@@ -182,12 +185,23 @@ fn with_asker(asker: RadioKey, listed: &[u64]) -> Owners
     Owners { count, key }
 }
 
-// The owners that an order gives: "asker plus those listed".
+// Owners, rising.
+fn owners_rising(owners: Owners) -> Owners
+    ensures { λ r. ⌜ r ≡ ownersAs (inOrder (λ k. k) (ownersHeld owners)) ⌝ }
+{
+    let given = owners.key;
+    let count = lesser(owners.count, MAX_OWNERS);
+    let mut key = [0u64; MAX_OWNERS];
+    put_rising(&given[..count], &mut key);
+    Owners { count, key }
+}
+
+// The owners that an order gives, rising: "asker plus those listed".
 pub fn owners_in(asker: Itsi, list: Listed) -> Owners
-    ensures { λ r. ⌜ r ≡ ownersAs (once (key (asker .0) ∷ numbersIn (listOf list))) ⌝ }
+    ensures { λ r. ⌜ r ≡ ownersAs (rising (key (asker .0) ∷ numbersIn (listOf list))) ⌝ }
 {
     let keys = keys_in(list);
     let count = keys.count;
     let key = keys.key;
-    with_asker(radio_key(asker), &key[..count])
+    owners_rising(with_asker(radio_key(asker), &key[..count]))
 }

@@ -2,6 +2,7 @@
 pub mod keys;
 pub mod lists;
 pub mod record;
+mod rising;
 pub mod row;
 mod values;
 
@@ -65,7 +66,7 @@ pub struct Radios {
     pub key: [u64; MAX_LISTED],
 }
 
-// The owners that an order gives: the asker, then those of its list, each once; the words past them are 0.
+// The owners that an order gives: the asker and those of its list, each once, rising; the words past them are 0.
 pub struct Owners {
     pub count: usize,
     pub key: [u64; MAX_OWNERS],

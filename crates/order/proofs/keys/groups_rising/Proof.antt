@@ -1,0 +1,43 @@
+-- `order::groups_rising` meets its contract.
+use native.Mathlib.Omega.{arith}
+use mathlib.Core.Path.{_≡_}
+use lib.ListN.{length, length-take}
+use Rattle.order.proofs.KeyLaws.{cut-fits, cut-length, cut-sorted}
+use borrow.Author.Needs.{needs}
+use Rattle.order.proofs.keys.groups_rising.Statement.{statement}
+use Rattle.order.proofs.keys.groups_rising.Tie as tie
+
+group-count-requires : tie.Need-group-count-requires
+group-count-requires c κs = search needs
+
+array-share-prefix-named : tie.Need-array-share-prefix-named
+array-share-prefix-named c = let g = c .before .before .args .groups in cut-fits (g .key) (g .count) _ (c .group-count .ensures)
+
+slice-aggregate-put-rising : tie.Need-slice-aggregate-put-rising
+slice-aggregate-put-rising c = let g = c .before .before .before .args .groups in cut-length (g .key) (g .count) _ (c .before .group-count .ensures)
+
+slice-aggregate-put-rising-2 : tie.Need-slice-aggregate-put-rising-2
+slice-aggregate-put-rising-2 c = search needs
+
+put-rising-requires : tie.Need-put-rising-requires
+put-rising-requires c κs =
+    let g = c .before .before .before .before .args .groups in
+    let n : length (g .key) ≡ 10 = search needs in
+    omega (arith, length-take (c .before .before .group-count .result) (g .key))
+
+returns : tie.Need-returns
+returns c =
+    let g = c .before .before .before .before .before .before .args .groups in
+    let w = cut-sorted (g .key) (g .count) _ (c .before .before .before .before .group-count .ensures) 10 _ (c .before .put-rising .ensures) in
+    λ i. record { count = w .0 i; key = w .1 i }
+
+pub groups-rising-spec : {M : Type 1} → statement M
+groups-rising-spec =
+    tie.close
+    (tie.spec
+    group-count-requires
+    array-share-prefix-named
+    slice-aggregate-put-rising
+    slice-aggregate-put-rising-2
+    put-rising-requires
+    returns)
