@@ -8,6 +8,7 @@ pub mod Arrival
 pub mod Rises
 pub mod ByKey
 pub mod ByNumber
+pub mod PutsByKey
 pub mod Effects
 pub mod Totals
 pub mod Agree

@@ -185,6 +185,10 @@ same-members (x ∷ a) (y ∷ b) r s h =
         (λ e. cc (eqb-true z x e, above-mem x a (r .0), above-mem y b (s .0)))
         (λ e. cc (h z))
 
+-- a rising list is its own numbers, rising
+pub rising-same : (l : List ℕ) → Rising l → rising l ≡ l
+rising-same l r = same-members (rising l) l (rising-rising l) r (λ x. mem-rising x l)
+
 pub length-rising : (l : List ℕ) → Once l → length (rising l) ≡ length l
 length-rising l o = length-order (λ n. n) (once l) ∙ ap length (once-same l o)
 

@@ -1,9 +1,9 @@
 -- Putting one key after the other, by any lawful put.
 use Prim.Native.Nat.{_+_}
-use mathlib.Core.Path.{_≡_, refl, sym, _∙_, ap}
+use mathlib.Core.Path.{_≡_, refl, _∙_}
 use mathlib.Core.Bool.{Bool, true, false, cond, not}
 use mathlib.Core.List.{List, [], _∷_, _++_}
-use mathlib.Core.Option.{Option, some}
+use mathlib.Core.Option.{some}
 use lib.ListN.{length}
 use native.Mathlib.Omega.{arith}
 use Rattle.rules.specs.Lists.{any, keep, present}
@@ -17,11 +17,6 @@ module _ {K X : Type 0} (p : Put K X) where
   pub puts-append : (l : List (K × X)) (a b : List K) (f : K → X) → puts p l (a ++ b) f ≡ puts p (puts p l a f) b f
   puts-append l [] b f = refl
   puts-append l (k ∷ a) b f = puts-append (p .put l k (f k)) a b f
-
-  -- each key's value made from what is found at its turn
-  abbrev pub putsNow : (K → K → Bool) → List (K × X) → List K → (Option X → X) → List (K × X)
-  putsNow same l [] F = l
-  putsNow same l (k ∷ ks) F = putsNow same (p .put l k (F (find same l k))) ks F
 
 module _ {K X : Type 0} (same : K → K → Bool) (sound : (a b : K) → same a b ≡ true → a ≡ b) (itself : (a : K) → same a a ≡ true)
     (p : Put K X) (laws : LawfulPut same p) where
@@ -59,25 +54,3 @@ module _ {K X : Type 0} (same : K → K → Bool) (sound : (a b : K) → same a 
       rest (j ∷ js) e = split (same k j)
           (λ q. clash (cc))
           (λ q. cc (find-other l k (f k) h j q, rest js (cc)))
-
-  -- where no key stands twice, a value made at its key's turn is made from what was found before all of them
-  pub puts-now : (l : List (K × X)) (ks : List K) (F : Option X → X) → p .form l ≡ true → Apart same ks
-      → puts p l ks (λ k. F (find same l k)) ≡ putsNow p same l ks F
-  puts-now l [] F h a = refl
-  puts-now l (k ∷ ks) F h a =
-      let l′ = p .put l k (F (find same l k)) in
-      alike ks l′ (λ j. F (find same l j)) (λ j. F (find same l′ j)) (agree ks (a .0)) ∙ puts-now l′ ks F (laws .stays l k (F (find same l k)) h) (a .1)
-    where
-      Alike : (K → X) → (K → X) → List K → Type 0
-      Alike f g [] = Unit {0}
-      Alike f g (j ∷ js) = (f j ≡ g j) × Alike f g js
-
-      agree : (js : List K) → any (same k) js ≡ false → Alike (λ j. F (find same l j)) (λ j. F (find same (p .put l k (F (find same l k))) j)) js
-      agree [] e = tt
-      agree (j ∷ js) e = split (same k j)
-          (λ q. clash (cc))
-          (λ q. (ap F (sym (find-other l k (F (find same l k)) h j q)), agree js (cc)))
-
-      alike : (js : List K) (m : List (K × X)) (f g : K → X) → Alike f g js → puts p m js f ≡ puts p m js g
-      alike [] m f g e = refl
-      alike (j ∷ js) m f g e = ap (λ (v : X). puts p (p .put m j v) js f) (e .0) ∙ alike js (p .put m j (g j)) f g (e .1)

@@ -19,7 +19,7 @@ use Rattle.rules.specs.Steps.{given, groupAfter, product, apply}
 use Rattle.rules.proofs.ListLaws.{eqb-same, Once, once-once}
 use Rattle.rules.proofs.Walks.{alter-all}
 use Rattle.rules.proofs.Pairs.{pair-sound, pair-itself, length-product, product-apart}
-use Rattle.rules.proofs.Puts.{putsNow, length-puts, puts-now}
+use Rattle.rules.proofs.Puts.{length-puts}
 use Rattle.rules.proofs.Effects.{Standing}
 
 -- the numbers of an order's list stand once each
@@ -41,16 +41,13 @@ module _ (p : Placing) (laws : Lawful p) (l : Ledger) (s : Standing p l) (o : De
   set : apply p l e .pairs ≡ puts (p .pairs) (l .pairs) pairs (λ k. begun (o .acknowledgement))
   set = ap (λ (k : List (Pair × Mark)). puts (p .pairs) k pairs (λ k. begun (o .acknowledgement))) (alter-all (l .pairs))
 
-  -- one group after the other, each made from what stands at its turn
+  -- each group and each pair is put
   pub define-lists : apply p l (effect (view l) (define o room)) ≡ record {
-    groups = putsNow (p .groups) eqb (l .groups) (defineGroups o)
-        (groupAfter ((effect (view l) (define o room)) .keeps) (given p (effect (view l) (define o room))));
+    groups = puts (p .groups) (l .groups) (defineGroups o)
+        (λ g. groupAfter ((effect (view l) (define o room)) .keeps) (given p (effect (view l) (define o room))) (group l g));
     pairs = puts (p .pairs) (l .pairs) (product (defineGroups o) (defineRadios o)) (λ k. begun (o .acknowledgement));
   }
-  define-lists =
-      let now = puts-now eqb eqb-true eqb-same (p .groups) (laws .groups) (l .groups) (defineGroups o) (groupAfter (e .keeps) (given p e)) (s .groups)
-      (numbers-once (o .groups)) in
-      λ i. record { groups = (made ∙ now) i; pairs = set i }
+  define-lists = λ i. record { groups = made i; pairs = set i }
 
   -- one more for each group that is missing, and for each pair
   pub define-groups-total : length (apply p l (effect (view l) (define o room)) .groups)
