@@ -1,9 +1,13 @@
 -- Laws of the lent storage.
 pub mod Rows
 pub mod Storage
+pub mod HalvingLaws
 pub mod PlaceLaws
+pub mod Stretches
 pub mod Tests
 pub mod Groups
+pub mod UpFrom
+pub mod PairWalk
 pub mod FormLaws
 pub mod NamedLaws
 pub mod Says

@@ -3,31 +3,27 @@ use mathlib.Core.Path.{_≡_, refl}
 use mathlib.Core.Bool.{Bool, true, false, cond}
 use mathlib.Core.List.{List, [], _∷_}
 use mathlib.Core.Option.{Option, none, some}
-use Prim.Native.Nat.{ℕ, _+_}
+use Prim.Native.Nat.{ℕ}
 use Rattle.refusal.specs.Says.{Says, accepted, refusedWith}
 use Rattle.refusal.specs.declared.Refusal.the-variants.{NoSuchGroup, NotOwner}
-use Rattle.rules.specs.Lists.{mem}
+use Rattle.rules.specs.Lists.{mem, present}
 use Rattle.rules.specs.Mark.{Mark}
 use Rattle.rules.specs.Ledger.{Group}
-use Rattle.store.specs.Places.{placeOf, foundOf}
+use Rattle.store.specs.Halving.{placeIn}
+use Rattle.store.specs.Places.{placeOf, lookedUp, foundOf}
 use Rattle.store.specs.Named.{ownedAs}
-use Rattle.store.specs.declared.Place.the-variants.{At}
+use Rattle.store.specs.declared.Place.the-variants.{At, Free}
 use Rattle.store.specs.declared.Owned.the-variants.{Own, Other}
 use Rattle.store.specs.Says.{placeSays, foundSays, ownedSays}
 
--- the first entry that has the key, told from the entries themselves
-abbrev pub firstSays : {K X : Type 0} → (K → K → Bool) → List (K × X) → K → ℕ → Says
-firstSays same [] k i = accepted []
-firstSays same (e ∷ l) k i = cond (same k (e .0)) (accepted (i ∷ [])) (firstSays same l k (i + 1))
-
-pub place-says : {K X : Type 0} (same : K → K → Bool) (l : List (K × X)) (k : K) (i : ℕ) → placeSays (placeOf same l k i) ≡ firstSays same l k i
-place-says same [] k i = refl
-place-says same (e ∷ l) k i = go (same k (e .0)) (place-says same l k (i + 1))
+-- whether it is looked up there, and the place
+pub place-says : {K X : Type 0} (below same : K → K → Bool) (l : List (K × X)) (k : K)
+    → placeSays (placeOf below same l k) ≡ accepted (cond (present (lookedUp below same l k)) 1 0 ∷ placeIn below l k ∷ [])
+place-says below same l k = go (present (lookedUp below same l k))
   where
-    go : (b : Bool) → placeSays (placeOf same l k (i + 1)) ≡ firstSays same l k (i + 1)
-        → placeSays (cond b (At i) (placeOf same l k (i + 1))) ≡ cond b (accepted (i ∷ [])) (firstSays same l k (i + 1))
-    go true h = refl
-    go false h = h
+    go : (b : Bool) → placeSays (cond b (At (placeIn below l k)) (Free (placeIn below l k))) ≡ accepted (cond b 1 0 ∷ placeIn below l k ∷ [])
+    go true = refl
+    go false = refl
 
 -- a pair's state, or none
 abbrev pub markSays : Option Mark → Says

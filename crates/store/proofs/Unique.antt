@@ -7,6 +7,8 @@ use Rattle.store.proofs.places.pair_place.Kinds as pair-place-kinds
 use Rattle.store.proofs.places.pair_place.Reads as pair-place
 use Rattle.store.proofs.places.group_place.Kinds as group-place-kinds
 use Rattle.store.proofs.places.group_place.Reads as group-place
+use Rattle.store.proofs.places.stretch_of.Kinds as stretch-of-kinds
+use Rattle.store.proofs.places.stretch_of.Reads as stretch-of
 use Rattle.store.proofs.places.state_in.Kinds as state-in-kinds
 use Rattle.store.proofs.places.state_in.Reads as state-in
 use Rattle.store.proofs.places.find.Kinds as find-kinds
@@ -28,6 +30,9 @@ pair-place-unique κs a r r′ s s′ p q = p ∙ sym q
 
 pub group-place-unique : Unique group-place-kinds.ps group-place-kinds.r group-place.Post
 group-place-unique κs a r r′ s s′ p q = p ∙ sym q
+
+pub stretch-of-unique : Unique stretch-of-kinds.ps stretch-of-kinds.r stretch-of.Post
+stretch-of-unique κs a r r′ s s′ p q = p ∙ sym q
 
 pub state-in-unique : Unique state-in-kinds.ps state-in-kinds.r state-in.Post
 state-in-unique κs a r r′ s s′ p q = p ∙ sym q

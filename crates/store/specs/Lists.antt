@@ -1,13 +1,9 @@
--- Parts of a list, as the walks over lent rows see them.
+-- Lent rows and the items that they hold.
 use mathlib.Core.Path.{_≡_}
-use mathlib.Core.List.{List, [], _++_, map}
+use mathlib.Core.List.{List, [], map}
 use Prim.Native.Nat.{ℕ, _<_}
-use lib.ListN.{length, getD, drop}
-
-module _ {A : Type 0} where
-  -- a list laid onto the front of another: what lies past it stays
-  abbrev pub onto : List A → List A → List A
-  onto k l = k ++ drop (length k) l
+use lib.ListN.{length, getD}
+use Rattle.order.specs.Walks.{onto}
 
 -- each of the first n rows is the row of what it says
 abbrev pub Plain : {X : Type 0} → (List ℕ → X) → (X → List ℕ) → ℕ → List (List ℕ) → Type 0

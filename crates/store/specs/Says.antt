@@ -1,6 +1,5 @@
 -- What is looked up says, in document 01's terms: the number, 0 where nothing is wrong, and the values.
-use Prim.Native.Nat.{ℕ}
-use mathlib.Core.List.{List, [], _∷_}
+use mathlib.Core.List.{[], _∷_}
 use Rattle.refusal.specs.Says.{Says, accepted, refusedWith}
 use Rattle.refusal.specs.declared.Refusal.the-variants.{NoSuchGroup, NotOwner}
 use Rattle.store.specs.declared.Place.{Place}
@@ -10,10 +9,10 @@ use Rattle.store.specs.declared.Found.the-variants as found
 use Rattle.store.specs.declared.Owned.{Owned}
 use Rattle.store.specs.declared.Owned.the-variants as owned
 
--- the place, or none
+-- whether it stands there, 1 or 0, and the place
 abbrev pub placeSays : Place → Says
-placeSays (place.At i) = accepted (i ∷ [])
-placeSays place.Nowhere = accepted []
+placeSays (place.At i) = accepted (1 ∷ i ∷ [])
+placeSays (place.Free i) = accepted (0 ∷ i ∷ [])
 
 -- "Finding a pair yields its state, or says plainly that there is none"
 abbrev pub foundSays : Found → Says

@@ -7,11 +7,10 @@ use lib.ListN.{getD, length, take, drop, replicate}
 use Rattle.rules.specs.Mark.{Mark}
 use Rattle.rules.specs.Ledger.{Group, Pair, Ledger}
 use Rattle.rules.specs.Placing.{Placing}
-use Rattle.rules.specs.Arrival.{byArrival}
+use Rattle.rules.specs.ByNumber.{byNumber}
 use Rattle.rules.specs.Written.{maxOwners}
 use Rattle.rows.specs.Layout as row
-use Rattle.order.specs.Walks.{left}
-use Rattle.store.specs.Lists.{onto}
+use Rattle.order.specs.Walks.{onto}
 use Rattle.order.specs.Row.{heldOf, lettersOf}
 
 -- rows of words
@@ -39,10 +38,6 @@ pairRow e = e .0 .0 ∷ e .0 .1 ∷ e .1 .state ∷ e .1 .ticks ∷ []
 
 abbrev pub pairsOf : ℕ → Rows → List (Pair × Mark)
 pairsOf n rows = map pairOf (take n rows)
-
--- those from place i on
-abbrev pub pairsFrom : ℕ → ℕ → Rows → List (Pair × Mark)
-pairsFrom i n rows = map pairOf (left i n rows)
 
 -- ---- a group's row ----
 
@@ -91,14 +86,11 @@ groupRow e = let p = e .1 .parameters in
 abbrev pub groupsOf : ℕ → Rows → List (ℕ × Group)
 groupsOf n rows = map groupOf (take n rows)
 
-abbrev pub groupsFrom : ℕ → ℕ → Rows → List (ℕ × Group)
-groupsFrom i n rows = map groupOf (left i n rows)
-
 -- ---- the ledger ----
 
--- our placing: entries in the order in which they came
+-- our placing: groups, owners and pairs by rising numbers, so that each group's pairs are one stretch
 abbrev pub placing : Placing
-placing = byArrival
+placing = byNumber
 
 abbrev pub groupCount : Contents → ℕ
 groupCount c = getD (c .head) row.groupCount 0

@@ -1,10 +1,4 @@
 // The written form of the lent storage.
-use crate::places::group_place;
-use crate::places::pair_place;
-use crate::places::stands;
-use order::GroupKey;
-use order::RadioKey;
-use order::lists::member;
 use rows::BROADCAST_WORD;
 use rows::CALL_WORD;
 use rows::CLASS_WORD;
@@ -33,19 +27,17 @@ use rows::TEMPORARY_WORD;
 use rows::UNHEARD;
 use rows::WAITING;
 ghost use Prim.Native.Nat.{_≤_};
-ghost use lib.Dec.{eqb, leb};
-ghost use lib.ListN.{length, getD, take, drop};
-ghost use mathlib.Core.Bool.{true, not, _&&_};
+ghost use lib.Dec.{leb};
+ghost use lib.ListN.{length, getD, take};
+ghost use mathlib.Core.Bool.{true};
 ghost use mathlib.Core.Path.{_≡_};
-ghost use Rattle.rules.specs.Entries.{find};
-ghost use Rattle.rules.specs.Lists.{any, unique, present};
-ghost use Rattle.rules.specs.Number.{wideKey};
+ghost use Rattle.rules.specs.Lists.{any};
 ghost use Rattle.rules.specs.Parameters.{badParameters};
-ghost use Rattle.rules.specs.Written.{maxOwners, goodOwners, goodGroup, goodMark};
+ghost use Rattle.rules.specs.Written.{maxOwners, goodOwners, goodMark};
 ghost use Rattle.rows.specs.Layout.{maxLetters, nameLength, ownerCount};
-ghost use Rattle.store.specs.Form.{blank, tidy, roomy, goodGroups, goodPairs, isWritten, Sound};
+ghost use Rattle.store.specs.Form.{tidy, roomy, risingKeys, goodRow, goodGroups, goodNext, keysOf, goodPairs, isWritten, Sound};
 ghost use Rattle.store.specs.Lists.{Plain};
-ghost use Rattle.store.specs.Storage.{contents, pairOf, pairRow, pairsOf, groupOf, groupRow, groupsOf, letters, owners};
+ghost use Rattle.store.specs.Storage.{placing, contents, pairOf, pairRow, pairsOf, groupOf, groupRow};
 
 // The first key that does not fit 24 bits.
 const KEY_LIMIT: u64 = 0x100_0000;
@@ -64,60 +56,64 @@ fn large(list: &[u64], bound: u64) -> bool
     false
 }
 
-// Whether no number of a list is there twice.
-fn distinct(list: &[u64]) -> bool
-    ensures { λ r. ⌜ r ≡ unique (now (list .entry)) ⌝ }
+// Whether the keys of a list rise, and fit 24 bits.
+fn rising_keys(list: &[u64]) -> bool
+    ensures { λ r. ⌜ r ≡ risingKeys 0 (now (list .entry)) ⌝ }
 {
+    let mut least: u64 = 0;
     let mut i: usize = 0;
     while i < list.len() {
-        let x = list[i];
+        let key = list[i];
         i += 1;
-        if member(&list[i..], x) {
+        let fine = (least <= key) & !(KEY_LIMIT <= key);
+        if !fine {
             return false;
         }
+        least = key + 1;
     }
     true
 }
 
 // Whether a parameter of a group is out of its range.
-fn bad_parameters(row: [u64; GROUP_WORDS]) -> bool
-    requires { ⌜ getD row nameLength 0 ≤ maxLetters ⌝ }
-    ensures { λ r. ⌜ r ≡ badParameters (groupOf row .1 .parameters) ⌝ }
+fn bad_parameters(row: &[u64; GROUP_WORDS]) -> bool
+    requires { ⌜ getD (now row) nameLength 0 ≤ maxLetters ⌝ }
+    ensures { λ r. ⌜ r ≡ badParameters (groupOf (now (row .entry)) .1 .parameters) ⌝ }
 {
+    let words = &row[..];
     let end = FIRST_LETTER + row[NAME_LENGTH] as usize;
     (8 < row[REFERENCE_WORD])
         | ((2 < row[CALL_WORD])
             | ((2 < row[BROADCAST_WORD])
-                | (large(&row[FIRST_LETTER..end], 256)
+                | (large(&words[FIRST_LETTER..end], 256)
                     | ((8 < row[CLASS_WORD])
                         | ((4 < row[LIFETIME_WORD]) | ((8 < row[TEMPORARY_WORD]) | false))))))
 }
 
-// Whether a group has 1 to 11 owners in range, each once.
-fn good_owners(row: [u64; GROUP_WORDS]) -> bool
-    requires { ⌜ getD row ownerCount 0 ≤ maxOwners ⌝ }
-    ensures { λ r. ⌜ r ≡ goodOwners (groupOf row .1 .owners) ⌝ }
+// Whether a group has 1 to 11 owners in range, rising.
+fn good_owners(row: &[u64; GROUP_WORDS]) -> bool
+    requires { ⌜ getD (now row) ownerCount 0 ≤ maxOwners ⌝ }
+    ensures { λ r. ⌜ r ≡ goodOwners placing (groupOf (now (row .entry)) .1 .owners) ⌝ }
 {
+    let words = &row[..];
     let count = row[OWNER_COUNT];
     let end = FIRST_OWNER + count as usize;
-    (0 < count)
-        & ((count <= MAX_OWNERS as u64)
-            & (distinct(&row[FIRST_OWNER..end]) & !large(&row[FIRST_OWNER..end], KEY_LIMIT)))
+    (0 < count) & ((count <= MAX_OWNERS as u64) & rising_keys(&words[FIRST_OWNER..end]))
 }
 
-// Whether the words past the counts are 0.
-fn blank_ends(row: [u64; GROUP_WORDS]) -> bool
-    requires { ⌜ (getD row nameLength 0 ≤ maxLetters) × (getD row ownerCount 0 ≤ maxOwners) ⌝ }
-    ensures { λ r. ⌜ r ≡ (blank (drop (getD row nameLength 0) (letters row)) && blank (drop (getD row ownerCount 0) (owners row))) ⌝ }
+// Whether the words past the counts are 0; it is then the row of its group.
+fn blank_ends(row: &[u64; GROUP_WORDS]) -> bool
+    requires { ⌜ (getD (now row) nameLength 0 ≤ maxLetters) × (getD (now row) ownerCount 0 ≤ maxOwners) ⌝ }
+    ensures { λ r. ⌜ (r ≡ tidy (now (row .entry))) × (r ≡ true → groupRow (groupOf (now (row .entry))) ≡ now (row .entry)) ⌝ }
 {
+    let words = &row[..];
     let name_end = FIRST_LETTER + row[NAME_LENGTH] as usize;
     let owners_end = FIRST_OWNER + row[OWNER_COUNT] as usize;
-    !large(&row[name_end..OWNER_COUNT], 1) & !large(&row[owners_end..GROUP_WORDS], 1)
+    !large(&words[name_end..OWNER_COUNT], 1) & !large(&words[owners_end..GROUP_WORDS], 1)
 }
 
 // Whether a group's row is in its form; it is then the row of its group.
-fn group_ok(row: [u64; GROUP_WORDS]) -> bool
-    ensures { λ r. ⌜ (r ≡ (tidy row && goodGroup (groupOf row))) × (r ≡ true → groupRow (groupOf row) ≡ row) ⌝ }
+fn group_ok(row: &[u64; GROUP_WORDS]) -> bool
+    ensures { λ r. ⌜ (r ≡ goodRow (now (row .entry))) × (r ≡ true → groupRow (groupOf (now (row .entry))) ≡ now (row .entry)) ⌝ }
 {
     let counted = (row[NAME_LENGTH] <= MAX_LETTERS as u64)
         & (row[OWNER_COUNT] <= MAX_OWNERS as u64);
@@ -127,19 +123,21 @@ fn group_ok(row: [u64; GROUP_WORDS]) -> bool
     blank_ends(row) & (!(KEY_LIMIT <= row[KEY_WORD]) & (good_owners(row) & !bad_parameters(row)))
 }
 
-// Whether every group is in its form and not there again further on.
+// Whether every group is in its form, and they rise.
 fn groups_ok(groups: &[[u64; GROUP_WORDS]], count: usize) -> bool
     requires { ⌜ count ≤ length (now groups) ⌝ }
-    ensures { λ r. ⌜ (r ≡ goodGroups (take count (now (groups .entry)))) × (r ≡ true → Plain groupOf groupRow count (now (groups .entry))) ⌝ }
+    ensures { λ r. ⌜ (r ≡ goodGroups 0 (take count (now (groups .entry)))) × (r ≡ true → Plain groupOf groupRow count (now (groups .entry))) ⌝ }
 {
+    let mut least: u64 = 0;
     let mut i: usize = 0;
     while i < count {
-        let row = groups[i];
+        let key = groups[i][KEY_WORD];
+        let fine = (least <= key) & group_ok(&groups[i]);
         i += 1;
-        let fine = group_ok(row) & !stands(group_place(groups, i, count, GroupKey(row[KEY_WORD])));
         if !fine {
             return false;
         }
+        least = key + 1;
     }
     true
 }
@@ -154,18 +152,14 @@ fn mark_ok(row: [u64; PAIR_WORDS]) -> bool
     (row[PAIR_STATE] <= UNHEARD) & (row[PAIR_TICKS] == 0)
 }
 
-// Whether a pair is in its form, its group there; its row is the row of the pair.
-fn pair_ok(groups: &[[u64; GROUP_WORDS]], count: usize, row: [u64; PAIR_WORDS]) -> bool
-    requires { ⌜ count ≤ length (now groups) ⌝ }
-    ensures { λ r. ⌜ (r ≡
-        (not (wideKey (pairOf row .0 .1)) && (goodMark (pairOf row .1) && present (find eqb (groupsOf count (now (groups .entry))) (pairOf row .0 .0)))))
-        × (pairRow (pairOf row) ≡ row) ⌝ }
+// Whether a pair of the group at hand is in its form, its radio none below `least`; its row is the row of the pair.
+fn pair_ok(row: [u64; PAIR_WORDS], least: u64) -> bool
+    ensures { λ r. ⌜ (r ≡ goodNext least (pairOf row)) × (pairRow (pairOf row) ≡ row) ⌝ }
 {
-    !(KEY_LIMIT <= row[PAIR_RADIO])
-        & (mark_ok(row) & stands(group_place(groups, 0, count, GroupKey(row[PAIR_GROUP]))))
+    (least <= row[PAIR_RADIO]) & (!(KEY_LIMIT <= row[PAIR_RADIO]) & mark_ok(row))
 }
 
-// Whether every pair is in its form and not there again further on.
+// Whether every pair is in its form and stands in its group's stretch, the stretches as the groups: a turn goes on by a pair or by a group.
 fn pairs_ok(
     groups: &[[u64; GROUP_WORDS]],
     group_count: usize,
@@ -173,23 +167,26 @@ fn pairs_ok(
     count: usize,
 ) -> bool
     requires { ⌜ («group_count» ≤ length (now groups)) × (count ≤ length (now pairs)) ⌝ }
-    ensures { λ r. ⌜ (r ≡ goodPairs (groupsOf «group_count» (now (groups .entry))) (pairsOf count (now (pairs .entry))))
+    ensures { λ r. ⌜ (r ≡ goodPairs (keysOf «group_count» (now (groups .entry))) 0 (pairsOf count (now (pairs .entry))))
         × (r ≡ true → Plain pairOf pairRow count (now (pairs .entry))) ⌝ }
 {
+    let mut group: usize = 0;
+    let mut least: u64 = 0;
     let mut i: usize = 0;
     while i < count {
-        let row = pairs[i];
-        i += 1;
-        let fine = pair_ok(groups, group_count, row)
-            & !stands(pair_place(
-                pairs,
-                i,
-                count,
-                GroupKey(row[PAIR_GROUP]),
-                RadioKey(row[PAIR_RADIO]),
-            ));
-        if !fine {
+        if group == group_count {
             return false;
+        }
+        let row = pairs[i];
+        if groups[group][KEY_WORD] != row[PAIR_GROUP] {
+            group += 1;
+            least = 0;
+        } else {
+            if !pair_ok(row, least) {
+                return false;
+            }
+            least = row[PAIR_RADIO] + 1;
+            i += 1;
         }
     }
     true
@@ -216,6 +213,8 @@ pub fn written(head: &[u64], groups: &[[u64; GROUP_WORDS]], pairs: &[[u64; PAIR_
     if !within {
         return false;
     }
-    groups_ok(groups, group_count as usize)
-        & pairs_ok(groups, group_count as usize, pairs, pair_count as usize)
+    if !groups_ok(groups, group_count as usize) {
+        return false;
+    }
+    pairs_ok(groups, group_count as usize, pairs, pair_count as usize)
 }

@@ -3,10 +3,16 @@ pub mod form;
 pub mod named;
 pub mod places;
 
-// The place of a row.
+// The place of a row: it stands there, or would come there.
 pub enum Place {
     At(usize),
-    Nowhere,
+    Free(usize),
+}
+
+// A group's stretch of pairs: its first place, and the place behind its last.
+pub struct Stretch {
+    pub from: usize,
+    pub to: usize,
 }
 
 // A pair's state, or plainly nothing.

@@ -14,12 +14,12 @@ use rows::GROUP_WORDS;
 use rows::MAX_OWNERS;
 use rows::OWNER_COUNT;
 use rows::lesser;
-ghost use lib.Dec.{eqb};
+ghost use lib.Dec.{eqb, ltb};
 ghost use mathlib.Core.Path.{_≡_};
-ghost use Rattle.rules.specs.Entries.{find};
 ghost use Rattle.rules.specs.Lists.{mem, any};
 ghost use Rattle.order.specs.Keys.{groupKeys};
 ghost use Rattle.store.specs.Named.{groupFault, ownedAs, failsAs};
+ghost use Rattle.store.specs.Places.{lookedUp};
 ghost use Rattle.store.specs.Storage.{groupOf, groupsOf};
 
 // Whether a radio is an owner of a group.
@@ -37,9 +37,9 @@ pub fn owned_by(
     group: GroupKey,
     asker: RadioKey,
 ) -> Owned
-    ensures { λ r. ⌜ r ≡ ownedAs (find eqb (groupsOf count (now (groups .entry))) (group .0)) (asker .0) ⌝ }
+    ensures { λ r. ⌜ r ≡ ownedAs (lookedUp ltb eqb (groupsOf count (now (groups .entry))) (group .0)) (asker .0) ⌝ }
 {
-    let Place::At(i) = group_place(groups, 0, count, group) else {
+    let Place::At(i) = group_place(groups, count, group) else {
         return Owned::Absent;
     };
     if owner_in(groups[i], asker) {
@@ -78,7 +78,7 @@ pub fn any_group(
     asker: RadioKey,
     standing: Standing,
 ) -> bool
-    ensures { λ r. ⌜ r ≡ any (λ g. groupFault standing (find eqb (groupsOf count (now (groups .entry))) g) (asker .0)) (groupKeys named) ⌝ }
+    ensures { λ r. ⌜ r ≡ any (λ g. groupFault standing (lookedUp ltb eqb (groupsOf count (now (groups .entry))) g) (asker .0)) (groupKeys named) ⌝ }
 {
     let end = group_count(named);
     let mut i: usize = 0;
