@@ -15,7 +15,7 @@ use Rattle.rules.specs.Outgoing.{Outgoing, outgoing}
 use Rattle.rules.specs.Refusals.{first, accepted}
 use Rattle.rules.specs.Ledger.{view}
 use Rattle.rules.specs.Steps.{tally, apply, refused, step, sent}
-use Rattle.store.specs.Lists.{onto}
+use Rattle.order.specs.Walks.{onto}
 use Rattle.store.specs.Storage.{Contents, groupOf, groupRow, pairOf, pairRow, groupCount, pairCount, placing, ledgerOf, laid}
 use Rattle.store.specs.Form.{isWritten, Sound}
 use Rattle.store.proofs.Rows.{length-items, lay-plain}

@@ -11,7 +11,7 @@ use Rattle.rules.specs.Replies.{Entry, Listing}
 use Rattle.rules.specs.Ledger.{list}
 use Rattle.order.specs.declared.Gtsi.{Gtsi}
 use Rattle.order.specs.declared.Itsi.{Itsi}
-use Rattle.store.specs.Lists.{onto}
+use Rattle.order.specs.Walks.{onto}
 use Rattle.store.specs.Storage.{Rows, Contents, ledgerOf}
 use Rattle.store.specs.Form.{isWritten}
 use Rattle.replies.specs.declared.Members.{Members}

@@ -10,7 +10,7 @@ use Rattle.rules.specs.Order.{Step}
 use Rattle.rules.specs.Outgoing.{Outgoing}
 use Rattle.rules.specs.Refusals.{accepted}
 use Rattle.rules.specs.Steps.{sent}
-use Rattle.store.specs.Lists.{onto}
+use Rattle.order.specs.Walks.{onto}
 use Rattle.store.specs.Storage.{Rows, Contents, placing, ledgerOf}
 use Rattle.replies.specs.Orders.{verdict, contentsAfter}
 use Rattle.replies.specs.declared.Sent.{Sent}

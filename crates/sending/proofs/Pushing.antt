@@ -11,7 +11,7 @@ use lib.Seq.{take-suc, paste, paste-suc, take-length, take-append-seam, drop-app
 use Rattle.rules.specs.Lists.{join}
 use Rattle.rules.specs.Outgoing.{Outgoing, orders}
 use Rattle.rules.proofs.Walks.{join-append}
-use Rattle.store.specs.Lists.{onto}
+use Rattle.order.specs.Walks.{onto}
 use Rattle.store.specs.Storage.{Rows}
 use Rattle.replies.specs.Sending.{orderRow}
 use Rattle.sending.specs.Pushed.{pushed}

@@ -10,12 +10,11 @@ use Rattle.store.proofs.Says.{markSays}
 use Rattle.turning.specs.Turns.{turnOf}
 use Rattle.turning.specs.Says.{turnSays}
 use Rattle.turning.specs.declared.Turn.{Turn}
-use Rattle.turning.specs.declared.Turn.the-variants.{Tick, Confirm, Leave, LeaveAll}
+use Rattle.turning.specs.declared.Turn.the-variants.{Tick, Leave, LeaveAll}
 
 -- a pair that the order names
 pub turn-says : (t : Turn) (groups radios : List ℕ) (k : Pair) (m : Mark) → mem (k .0) groups ≡ true → mem (k .1) radios ≡ true
     → markSays (turnOf t groups radios k m) ≡ turnSays t m
 turn-says Tick groups radios k m g r = refl
-turn-says Confirm groups radios k m g r = rw (g, r)
 turn-says Leave groups radios k m g r = rw (g, r)
 turn-says LeaveAll groups radios k m g r = rw g

@@ -4,7 +4,6 @@ use order::Radios;
 use order::keys::group_count;
 use order::keys::radio_count;
 use order::lists::member;
-use rows::CONFIRMED;
 use rows::PAIR_GROUP;
 use rows::PAIR_RADIO;
 use rows::PAIR_STATE;
@@ -28,10 +27,9 @@ ghost use Rattle.store.specs.Lists.{Fills};
 ghost use Rattle.store.specs.Storage.{pairOf, pairRow, pairsOf};
 ghost use Rattle.turning.specs.Turns.{staysOf, markOf, turnOf};
 
-// What becomes of the pairs in an order that makes none.
+// What becomes of the pairs: a tick, radios leaving groups, or all radios leaving them.
 pub enum Turn {
     Tick,
-    Confirm,
     Leave,
     LeaveAll,
 }
@@ -72,23 +70,16 @@ fn stays(turn: Turn, groups: &[u64], radios: &[u64], row: [u64; PAIR_WORDS]) -> 
 {
     match turn {
         Turn::Tick => true,
-        Turn::Confirm => true,
         Turn::Leave => !names(groups, radios, row),
         Turn::LeaveAll => !member(groups, row[PAIR_GROUP]),
     }
 }
 
-fn turned(turn: Turn, groups: &[u64], radios: &[u64], row: [u64; PAIR_WORDS]) -> [u64; PAIR_WORDS]
-    ensures { λ r. ⌜ r ≡ pairRow (pairOf row .0, markOf turn (now (groups .entry)) (now (radios .entry)) (pairOf row .0) (pairOf row .1)) ⌝ }
+fn turned(turn: Turn, row: [u64; PAIR_WORDS]) -> [u64; PAIR_WORDS]
+    ensures { λ r. ⌜ r ≡ pairRow (pairOf row .0, markOf turn (pairOf row .1)) ⌝ }
 {
     match turn {
         Turn::Tick => ticked_row(row),
-        Turn::Confirm => {
-            if names(groups, radios, row) {
-                return [row[PAIR_GROUP], row[PAIR_RADIO], CONFIRMED, 0];
-            }
-            row
-        }
         Turn::Leave => row,
         Turn::LeaveAll => row,
     }
@@ -112,7 +103,7 @@ fn turn_rows(
         let row = pairs[i];
         i += 1;
         if stays(turn, groups, radios, row) {
-            pairs[kept] = turned(turn, groups, radios, row);
+            pairs[kept] = turned(turn, row);
             kept += 1;
         }
     }
