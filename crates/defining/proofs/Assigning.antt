@@ -7,10 +7,9 @@ use lib.ListN.{length, getD, take, length-map, length-append, length-take}
 use lib.Seq.{paste}
 use Rattle.rules.specs.Lists.{join}
 use Rattle.rules.specs.Outgoing.{Outgoing, assign, orders}
-use Rattle.order.proofs.Walks.{take-min}
+use Rattle.order.proofs.Walks.{take-min, onto-length}
 use Rattle.store.specs.Lists.{Fills}
 use Rattle.store.specs.Storage.{Rows}
-use Rattle.store.proofs.Rows.{onto-length}
 use Rattle.replies.specs.Sending.{orderRow}
 use Rattle.sending.specs.Pushed.{pushed}
 use Rattle.sending.proofs.Pushing.{pushed-fits, length-rows, join-turn, join-front, send-turn}

@@ -10,9 +10,8 @@ use borrow.Author.Tests.{ltb-false}
 use Rattle.refusal.specs.declared.Refusal.{Refusal}
 use Rattle.refusal.specs.declared.Refusal.the-variants.{BadOrder, FormNotTaken, NotOwner, Full, NoRoom}
 use Rattle.layout.specs.Frame.{places}
-use Rattle.rules.specs.Lists.{any}
+use Rattle.rules.specs.Lists.{any, rising}
 use Rattle.rules.specs.Entries.{find}
-use Rattle.rules.specs.Arrival.{put}
 use Rattle.rules.specs.Number.{key, wide, badList}
 use Rattle.rules.specs.Mark.{begun}
 use Rattle.rules.specs.Parameters.{badName, badParameters}
@@ -27,8 +26,7 @@ use Rattle.rules.specs.Written.{maxOwners}
 use Rattle.rules.proofs.Tests.{or-l, or-r}
 use Rattle.rules.proofs.Walks.{length-orders}
 use Rattle.rules.proofs.Ranges.{in-range}
-use Rattle.rules.proofs.Puts.{putsNow}
-use Rattle.rules.proofs.Arrival.{by-arrival}
+use Rattle.rules.proofs.ByNumber.{by-number}
 use Rattle.rules.proofs.Effects.{Standing}
 use Rattle.rules.proofs.Written.{written-form}
 use Rattle.rules.proofs.Sound.{bad-order}
@@ -37,7 +35,8 @@ use Rattle.order.specs.Row.{orderRowOf}
 use Rattle.order.specs.Steps.{defineStep}
 use Rattle.order.specs.declared.Itsi.{Itsi}
 use Rattle.order.specs.declared.RadioKey.{RadioKey}
-use Rattle.store.specs.Lists.{onto, Fills}
+use Rattle.order.specs.Walks.{onto}
+use Rattle.store.specs.Lists.{Fills}
 use Rattle.store.specs.Storage.{Rows, Contents, contents, placing, groupOf, groupRow, pairRow, ledgerOf, laid}
 use Rattle.store.specs.Form.{Sound}
 use Rattle.store.specs.Named.{groupFault}
@@ -47,11 +46,9 @@ use Rattle.replies.specs.Orders.{replyOf, verdict}
 use Rattle.replies.specs.declared.Reply.the-variants.{Done, Refused}
 use Rattle.replies.proofs.Orders.{set-both, first-none, first-some, reply-none, reply-some, tests-pass}
 use Rattle.defining.specs.Parts.{anyUntaken}
-use Rattle.defining.specs.Groups.{makeGroups}
-use Rattle.defining.specs.Pairs.{setAll}
+use Rattle.defining.specs.Carried.{carried}
 use Rattle.defining.specs.Sent.{assignOrders}
 use Rattle.defining.specs.Tests.{defineForm, defineStand}
-use Rattle.defining.proofs.SetPairs.{set-product}
 use Rattle.defining.proofs.OrderRows.{order-group}
 
 standing : (c : Contents) → Sound c → Standing placing (ledgerOf c)
@@ -74,8 +71,8 @@ module _ (c : Contents) (w : Sound c) (asker : Itsi) (k : RadioKey) (same : k .0
   unfolding defineOf
   define-tests =
       let l = ledgerOf c in
-      let n = define-groups-total placing by-arrival l (standing c w) o room in
-      let m = define-pairs-total placing by-arrival l (standing c w) o room in
+      let n = define-groups-total placing by-number l (standing c w) o room in
+      let m = define-pairs-total placing by-number l (standing c w) o room in
       λ i.
       (BadOrder, bad-order (asker .0) values whole i)
       ∷ (FormNotTaken, o .call || anyUntaken o)
@@ -93,8 +90,8 @@ module _ (c : Contents) (w : Sound c) (asker : Itsi) (k : RadioKey) (same : k .0
 -- ---- the row that is read says the group that the order gives, and the state is the law's ----
 
 module _ (asker : Itsi) (values : List ℕ) (l : Ledger) (room : ℕ) where
-  pub group-said : (os : List ℕ) → os ≡ defineOwners (defineOf (asker .0) values) → length os ≤ maxOwners → badName (optionalName values) ≡ false
-      → groupOf (orderRowOf values os) .1 ≡ given (effect (view l) (defineStep asker values room))
+  pub group-said : (os : List ℕ) → os ≡ rising (defineOwners (defineOf (asker .0) values)) → length os ≤ maxOwners → badName (optionalName values) ≡ false
+      → groupOf (orderRowOf values os) .1 ≡ given placing (effect (view l) (defineStep asker values room))
   unfolding defineOf
   group-said os e few good =
       ap (λ (x : ℕ × Group). x .1) (order-group values os few good) ∙ ap (λ (z : List ℕ). record { owners = z; parameters = parametersIn values }) e
@@ -105,35 +102,13 @@ module _ (asker : Itsi) (values : List ℕ) (l : Ledger) (room : ℕ) where
 
 -- ---- what is left ----
 
-groups-put : (keeps : Bool) (new : Group) (gs : List ℕ) (l : List (ℕ × Group))
-    → makeGroups keeps new gs l ≡ putsNow (placing .groups) eqb l gs (groupAfter keeps new)
-groups-put keeps new [] l = refl
-groups-put keeps new (g ∷ gs) l = groups-put keeps new gs (put eqb l g (groupAfter keeps new (find eqb l g)))
-
 module _ (c : Contents) (w : Sound c) (o : Define) (room : ℕ) where
   abbrev pub does : Effect
   does = effect (view (ledgerOf c)) (define o room)
 
-  abbrev pub left : Ledger
-  left = apply placing (ledgerOf c) does
-
-  pub made-groups : makeGroups (does .keeps) (given does) (defineGroups o) (ledgerOf c .groups) ≡ left .groups
-  made-groups =
-      groups-put (does .keeps) (given does) (defineGroups o) (ledgerOf c .groups)
-      ∙ sym (ap (λ (a : Ledger). a .groups) (define-lists placing by-arrival (ledgerOf c) (standing c w) o room))
-
-  pub set-pairs : setAll (does .begins .state) (defineRadios o) (defineGroups o) (ledgerOf c .pairs) ≡ left .pairs
-  set-pairs =
-      set-product (does .begins .state) (defineRadios o) (defineGroups o) (ledgerOf c .pairs)
-      ∙ sym (ap (λ (a : Ledger). a .pairs) (define-lists placing by-arrival (ledgerOf c) (standing c w) o room))
-
--- what the walks leave is the ledger, laid over the contents
-pub all-laid : (c : Contents) → Sound c → (l : Ledger) (n m : ℕ) (groups pairs : Rows)
-    → Fills groupRow (l .groups) (c .groups) groups n → Fills pairRow (l .pairs) (c .pairs) pairs m
-    → contents (set (set (c .head) 0 n) 1 m) groups pairs ≡ laid l c
-all-laid c w l n m groups pairs g p =
-    let h = set-both (c .head) n m (w .head) ∙ (λ i. onto (g .counts i ∷ p .counts i ∷ []) (c .head)) in
-    λ i. contents (h i) (g .rows i) (p .rows i)
+  -- what is carried out is what the law leaves
+  pub carried-law : carried (does .keeps) (given placing does) (defineGroups o) (defineRadios o) (does .begins .state) c ≡ apply placing (ledgerOf c) does
+  carried-law = sym (define-lists placing by-number (ledgerOf c) (standing c w) o room)
 
 -- a define that is taken has room for what it makes and sends, and a name that fits
 pub record Passed (values : List ℕ) (left : Ledger) (radios groups : List ℕ) (room : ℕ) : Type 0 where

@@ -1,8 +1,9 @@
 -- Laws of a define.
-pub mod Puts
+pub mod Parting
+pub mod Downward
 pub mod Counting
-pub mod SetPairs
 pub mod Making
+pub mod Products
 pub mod OrderRows
 pub mod Assigning
 pub mod Standing

@@ -1,32 +1,33 @@
 -- A made row is the row of the group after the define.
 use mathlib.Core.Path.{_≡_, refl, sym, ap, subst, _∙_}
 use mathlib.Core.Bool.{Bool, true, false, cond, true≢false}
-use mathlib.Core.List.{List, [], _∷_, _++_, map}
+use mathlib.Core.List.{List, [], _∷_, _++_}
 use mathlib.Core.Option.{Option, none, some}
 use Prim.Native.Nat.{ℕ, zero, suc, _+_, _-_, _≤_, _<_}
 use native.Mathlib.Omega.{arith}
 use lib.Dec.{eqb}
-use lib.ListN.{length, getD, set, take, drop, replicate, length-append, length-replicate}
-use lib.Seq.{drop-cons, take-at, drop-at, take-length}
-use borrow.Author.Tests.{ne-eqb, eqb-true}
+use lib.ListN.{length, getD, take, drop, replicate, length-append, length-replicate}
+use lib.Seq.{drop-cons, take-at, drop-at, take-length, getD-at, length-take-le}
+use borrow.Author.Tests.{ne-eqb}
+use Rattle.rules.specs.Lists.{present}
 use Rattle.rules.specs.Parameters.{noParameters, over, badName}
 use Rattle.rules.specs.Entries.{find}
-use Rattle.rules.specs.Arrival.{put}
-use Rattle.rules.proofs.ListLaws.{eqb-same}
-use Rattle.rules.proofs.Arrival.{length-put}
 use Rattle.rules.specs.Ledger.{Group}
 use Rattle.rules.specs.Steps.{groupAfter}
 use Rattle.rules.specs.Written.{maxOwners}
+use Rattle.rules.proofs.ByNumber.{numbers-linear}
 use Rattle.rows.specs.Layout.{groupWords, maxLetters}
-use Rattle.store.specs.Lists.{Fills}
+use Rattle.store.specs.Lists.{Plain}
 use Rattle.store.specs.Storage.{Rows, groupOf, groupRow, groupsOf, counted}
-use Rattle.order.specs.Row.{heldOf, lettersOf, words}
-use Rattle.defining.specs.Takes.{Takes}
-use Rattle.defining.specs.Row.{madeRow}
-use Rattle.defining.specs.Groups.{makeGroup, Fine, FineGroups, FineOrder}
+use Rattle.store.specs.declared.Place.{Place}
+use Rattle.store.specs.declared.Place.the-variants.{At, Free}
+use Rattle.store.proofs.Rows.{length-items}
+use Rattle.store.proofs.HalvingLaws.{item-at}
 use Rattle.store.proofs.Groups.{name-few, group-back}
-use Rattle.store.proofs.PlaceLaws.{Row, Missing}
-use Rattle.defining.proofs.Puts.{fills-at, fills-last, room-last}
+use Rattle.order.specs.Row.{heldOf, lettersOf, words}
+use Rattle.defining.specs.Row.{madeRow}
+use Rattle.defining.specs.Groups.{rowFor, Fine, FineGroups, FineOrder}
+use Rattle.defining.proofs.Parting.{Parted}
 
 held-over : (new old : Option ℕ) → cond (eqb (heldOf new) 0) (heldOf old) (heldOf new) ≡ heldOf (over new old)
 held-over none old = refl
@@ -108,19 +109,7 @@ module _ (g n : ℕ) (keeps : Bool) (new old : Group) (fn : Fine new) (fo : Fine
       ∷ held-over (p .broadcast) (q .broadcast) i ∷ held-over (p .class) (q .class) i ∷ held-over (p .lifetime) (q .lifetime) i
       ∷ held-over (p .temporary) (q .temporary) i ∷ (name-part (eqb (length (lettersOf (p .name))) 0) refl i ++ owner-part keeps i)
 
--- ---- groups that a row has room for ----
-
-name-over : (new old : Option (List ℕ)) → badName new ≡ false → badName old ≡ false → badName (over new old) ≡ false
-name-over none old p q = q
-name-over (some l) old p q = p
-
-fine-from : (keeps : Bool) (new : Group) (x : Option Group) → Fine new → ((y : Group) → x ≡ some y → Fine y) → Fine (groupAfter keeps new x)
-fine-from keeps new none f h = (name-over (new .parameters .name) none (f .0) refl, f .1)
-fine-from keeps new (some y) f h = (name-over (new .parameters .name) (y .parameters .name) (f .0) (h y refl .0), go keeps)
-  where
-    go : (k : Bool) → length (cond k (y .owners) (new .owners)) ≤ 11
-    go true = h y refl .1
-    go false = f .1
+-- ---- the row that is put ----
 
 fine-find : (l : List (ℕ × Group)) → FineGroups l → (g : ℕ) (x : Group) → find eqb l g ≡ some x → Fine x
 fine-find [] f g x e = let z : _≡_ {A = ℕ} 0 1 = cc in absurd (omega arith)
@@ -130,56 +119,46 @@ fine-find (y ∷ l) f g x e = go (eqb g (y .0)) e (fine-find l (f .1) g x)
     go true q h = let z : y .1 ≡ x = cc in subst Fine z (f .0)
     go false q h = h q
 
-fine-put : (l : List (ℕ × Group)) → FineGroups l → (g : ℕ) (v : Group) → Fine v → FineGroups (put eqb l g v)
-fine-put [] f g v q = (q, tt)
-fine-put (y ∷ l) f g v q = go (eqb g (y .0)) (fine-put l (f .1) g v q)
-  where
-    go : (b : Bool) → FineGroups (put eqb l g v) → FineGroups (cond b ((y .0, v) ∷ l) (y ∷ put eqb l g v))
-    go true h = (q, f .1)
-    go false h = (f .0, h)
+-- a group's row at its place, or none: the row for it is that of the group by the law
+module _ (l : List (ℕ × Group)) (f : FineGroups l) (rows : Rows) (left g : ℕ) (keeps : Bool) (order : List ℕ) (o : FineOrder order)
+    (h : left ≤ length rows) (plain : Plain groupOf groupRow left rows) (same : find eqb (groupsOf left rows) g ≡ find eqb l g) where
+  abbrev new : Group
+  new = groupOf order .1
 
-pub fine-make : (keeps : Bool) (new : Group) → Fine new → (g : ℕ) (l : List (ℕ × Group)) → FineGroups l → FineGroups (makeGroup keeps new g l)
-fine-make keeps new n g l f = fine-put l f g (groupAfter keeps new (find eqb l g)) (fine-from keeps new (find eqb l g) n (λ y e. fine-find l f g y e))
+  made-anew : (i : ℕ) → i < left → (x : Group) → groupOf (getD rows i []) ≡ (g, x) → find eqb l g ≡ some x
+      → madeRow g keeps order (getD rows i []) ≡ groupRow (g, groupAfter keeps new (find eqb l g))
+  made-anew i p x e q =
+      ap (λ (z : List ℕ). madeRow g keeps z (getD rows i [])) (sym (o .plain))
+      ∙ ap (madeRow g keeps (groupRow (0, new))) (sym (plain i p) ∙ ap groupRow e)
+      ∙ made-is g g keeps new x (o .fine) (fine-find l f g x q)
+      ∙ ap (λ (v : Option Group). groupRow (g, groupAfter keeps new v)) (sym q)
 
-pub groups-back : (l : List (ℕ × Group)) → FineGroups l → map groupOf (map groupRow l) ≡ l
-groups-back [] f = refl
-groups-back (e ∷ l) f = λ i. group-back (e .0) (e .1 .owners) (e .1 .parameters) (f .0 .0) (f .0 .1) i ∷ groups-back l (f .1) i
+  made-first : find eqb l g ≡ none → madeRow g false order (replicate groupWords 0) ≡ groupRow (g, groupAfter keeps new (find eqb l g))
+  made-first q =
+      ap (λ (z : List ℕ). madeRow g false z (replicate groupWords 0)) (sym (o .plain))
+      ∙ ap (madeRow g false (groupRow (0, new))) blank-row
+      ∙ made-is g 0 false new (record { owners = []; parameters = noParameters }) (o .fine) (refl, omega arith)
+      ∙ ap (λ (v : Option Group). groupRow (g, groupAfter keeps new v)) (sym q)
 
-pub make-grows : (keeps : Bool) (new : Group) (g : ℕ) (l : List (ℕ × Group)) → length l ≤ length (makeGroup keeps new g l)
-make-grows keeps new g l = omega (arith, length-put eqb eqb-true eqb-same l g (groupAfter keeps new (find eqb l g)))
+  pub row-made : (place : Place) → Parted numbers-linear g (groupsOf left rows) place
+      → rowFor place g keeps order rows ≡ groupRow (g, groupAfter keeps new (find eqb l g))
+  row-made (Free i) p = made-first (sym same ∙ missing (find eqb (groupsOf left rows) g) (p .stands))
+    where
+      missing : (v : Option Group) → false ≡ present v → v ≡ none
+      missing none e = refl
+      missing (some x) e = absurd (true≢false (sym e))
+  row-made (At i) p = go (find eqb (groupsOf left rows) g) refl (p .stands)
+    where
+      n : length (groupsOf left rows) ≡ left
+      n = length-items groupOf groupRow rows left h
 
--- ---- a group put into the rows ----
-
-module _ (rows : Rows) (n g : ℕ) (keeps : Bool) (order : List ℕ) (o : FineOrder order) (f : FineGroups (groupsOf n rows))
-    (t : Takes groupOf groupRow (makeGroup keeps (groupOf order .1) g (groupsOf n rows)) rows n) where
-  pub make-at : (j : ℕ) → Row eqb groupOf rows n (t .within) g j → (row : List ℕ) → row ≡ madeRow g keeps order (getD rows j [])
-      → Fills groupRow (makeGroup keeps (groupOf order .1) g (groupsOf n rows)) rows (set rows j row) n
-  make-at j p row e =
-      let new = groupOf order .1 in
-      let old = groupOf (getD rows j []) in
-      let y = fine-find (groupsOf n rows) f g (old .1) (p .found) in
-      let v = groupAfter keeps new (some (old .1)) in
-      let same : g ≡ old .0 = eqb-true g (old .0) (p .is) in
-      let r : row ≡ groupRow (g, v) =
-      e ∙ ap (λ (z : List ℕ). madeRow g keeps z (getD rows j [])) (sym (o .plain))
-      ∙ ap (madeRow g keeps (groupRow (0, new))) (sym (t .plain j (p .inside)))
-      ∙ made-is g (old .0) keeps new (old .1) (o .fine) y in
-      let m : makeGroup keeps new g (groupsOf n rows) ≡ set (groupsOf n rows) j (g, v) =
-      ap (λ (z : Option Group). put eqb (groupsOf n rows) g (groupAfter keeps new z)) (p .found) ∙ p .puts v
-      ∙ ap (λ (z : ℕ). set (groupsOf n rows) j (z, v)) (sym same) in
-      fills-at groupOf groupRow rows n (t .within) (t .plain) _ j (g, v) row (p .inside) m r
-
-  pub make-room : Missing eqb (groupOf []) (groupsOf n rows) g → n < length rows
-  make-room p = room-last groupOf groupRow rows n (t .within) (t .plain) _ _ (p .puts _) (t .room)
-
-  pub make-behind : Missing eqb (groupOf []) (groupsOf n rows) g → (row : List ℕ) → row ≡ madeRow g false order (replicate groupWords 0)
-      → Fills groupRow (makeGroup keeps (groupOf order .1) g (groupsOf n rows)) rows (set rows n row) (n + 1)
-  make-behind p row e =
-      let new = groupOf order .1 in
-      let v = groupAfter keeps new none in
-      let r : row ≡ groupRow (g, v) =
-      e ∙ ap (λ (z : List ℕ). madeRow g false z (replicate groupWords 0)) (sym (o .plain)) ∙ ap (madeRow g false (groupRow (0, new))) blank-row
-      ∙ made-is g 0 false new (record { owners = []; parameters = noParameters }) (o .fine) (refl, omega arith) in
-      let m : makeGroup keeps new g (groupsOf n rows) ≡ groupsOf n rows ++ ((g, v) ∷ []) =
-      ap (λ (z : Option Group). put eqb (groupsOf n rows) g (groupAfter keeps new z)) (p .found) ∙ p .puts v in
-      fills-last groupOf groupRow rows n (t .within) (t .plain) _ (g, v) row (make-room p) m r
+      go : (v : Option Group) → find eqb (groupsOf left rows) g ≡ v → true ≡ present v
+          → madeRow g keeps order (getD rows i []) ≡ groupRow (g, groupAfter keeps new (find eqb l g))
+      go none q e = absurd (true≢false e)
+      go (some x) q e =
+          let inside : i < left = omega (arith, p .inside, n) in
+          let own : getD (groupsOf left rows) i (groupOf []) ≡ (g, x) =
+          ap (λ (z : List (ℕ × Group)). getD z i (groupOf [])) (rw q at (p .parts))
+          ∙ getD-at (take i (groupsOf left rows)) (g, x) (drop (i + 1) (groupsOf left rows)) (groupOf []) i
+          (length-take-le i (groupsOf left rows) (omega (arith, n))) in
+          made-anew i inside x (sym (item-at groupOf rows left i inside) ∙ own) (sym same ∙ q)

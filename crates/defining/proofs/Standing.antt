@@ -6,7 +6,7 @@ use Prim.Native.Nat.{ℕ}
 use lib.Dec.{ltb, leb}
 use lib.ListN.{length}
 use borrow.Author.Tests.{leb-true, not-true}
-use Rattle.rules.specs.Lists.{all, unique}
+use Rattle.rules.specs.Lists.{all, rises}
 use Rattle.rules.specs.Number.{wideKey}
 use Rattle.rules.specs.Parameters.{badParameters}
 use Rattle.rules.specs.Refusals.{maxGroups, maxPairs}
@@ -19,20 +19,20 @@ use Rattle.store.specs.Form.{Sound}
 use Rattle.store.proofs.FormLaws.{law-form}
 use Rattle.defining.specs.Groups.{Fine, FineGroups}
 
-fine-good : (e : ℕ × Group) → goodGroup e ≡ true → Fine (e .1)
+fine-good : (e : ℕ × Group) → goodGroup placing e ≡ true → Fine (e .1)
 fine-good e h =
     let bad = badParameters (e .1 .parameters) in
     let n = length (e .1 .owners) in
-    let rest = unique (e .1 .owners) && all (λ a. not (wideKey a)) (e .1 .owners) in
-    let h₁ = and-r (not (wideKey (e .0))) (goodOwners (e .1 .owners) && not bad) h in
-    let h₂ = and-r (ltb 0 n) (leb n maxOwners && rest) (and-l (goodOwners (e .1 .owners)) (not bad) h₁) in (
-      in-range (e .1 .parameters) (not-true bad (and-r (goodOwners (e .1 .owners)) (not bad) h₁)) .name,
+    let rest = rises ltb (e .1 .owners) && all (λ a. not (wideKey a)) (e .1 .owners) in
+    let h₁ = and-r (not (wideKey (e .0))) (goodOwners placing (e .1 .owners) && not bad) h in
+    let h₂ = and-r (ltb 0 n) (leb n maxOwners && rest) (and-l (goodOwners placing (e .1 .owners)) (not bad) h₁) in (
+      in-range (e .1 .parameters) (not-true bad (and-r (goodOwners placing (e .1 .owners)) (not bad) h₁)) .name,
       leb-true n maxOwners (and-l (leb n maxOwners) rest h₂),
     )
 
-fine-all : (l : List (ℕ × Group)) → all goodGroup l ≡ true → FineGroups l
+fine-all : (l : List (ℕ × Group)) → all (goodGroup placing) l ≡ true → FineGroups l
 fine-all [] h = tt
-fine-all (e ∷ l) h = (fine-good e (and-l (goodGroup e) (all goodGroup l) h), fine-all l (and-r (goodGroup e) (all goodGroup l) h))
+fine-all (e ∷ l) h = (fine-good e (and-l (goodGroup placing e) (all (goodGroup placing) l) h), fine-all l (and-r (goodGroup placing e) (all (goodGroup placing) l) h))
 
 pub fine-groups : (c : Contents) → Sound c → FineGroups (ledgerOf c .groups)
 fine-groups c w =
@@ -40,7 +40,7 @@ fine-groups c w =
     let fewPairs = leb (length (l .pairs)) maxPairs in
     let groupsStand = placing .groups .form (l .groups) in
     let pairsStand = placing .pairs .form (l .pairs) in
-    let good = all goodGroup (l .groups) && all (goodPair l) (l .pairs) in
+    let good = all (goodGroup placing) (l .groups) && all (goodPair l) (l .pairs) in
     let h₁ = and-r (leb (length (l .groups)) maxGroups) (fewPairs && (groupsStand && (pairsStand && good))) (law-form c w) in
     let h₂ = and-r groupsStand (pairsStand && good) (and-r fewPairs (groupsStand && (pairsStand && good)) h₁) in
-    fine-all (l .groups) (and-l (all goodGroup (l .groups)) (all (goodPair l) (l .pairs)) (and-r pairsStand good h₂))
+    fine-all (l .groups) (and-l (all (goodGroup placing) (l .groups)) (all (goodPair l) (l .pairs)) (and-r pairsStand good h₂))

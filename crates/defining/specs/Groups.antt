@@ -1,25 +1,31 @@
--- Groups made, or made anew, one after the other, each in its place or behind the others.
+-- Groups made, or made anew, each at its place.
 use mathlib.Core.Path.{_≡_}
 use Prim.Native.Nat.{ℕ, _≤_}
 use mathlib.Core.Bool.{Bool, false}
 use mathlib.Core.List.{List, [], _∷_}
-use lib.Dec.{eqb}
-use lib.ListN.{length}
+use lib.Dec.{eqb, ltb}
+use lib.ListN.{length, getD, replicate}
 use Rattle.rules.specs.Entries.{find}
-use Rattle.rules.specs.Arrival.{put}
+use Rattle.rules.specs.Placing.{puts}
+use Rattle.rules.specs.ByNumber.{byKey}
 use Rattle.rules.specs.Parameters.{badName}
 use Rattle.rules.specs.Ledger.{Group}
 use Rattle.rules.specs.Steps.{groupAfter}
 use Rattle.rules.specs.Written.{maxOwners}
-use Rattle.store.specs.Storage.{groupOf, groupRow}
-use Rattle.defining.specs.Each.{each}
+use Rattle.rows.specs.Layout.{groupWords}
+use Rattle.store.specs.Storage.{Rows, groupOf, groupRow}
+use Rattle.store.specs.declared.Place.{Place}
+use Rattle.store.specs.declared.Place.the-variants.{At, Free}
+use Rattle.defining.specs.Row.{madeRow}
 
--- what becomes of a group, by the law
-abbrev pub makeGroup : Bool → Group → ℕ → List (ℕ × Group) → List (ℕ × Group)
-makeGroup keeps new g l = put eqb l g (groupAfter keeps new (find eqb l g))
+-- each by the law, from what stood before
+abbrev pub madeGroups : Bool → Group → List ℕ → List (ℕ × Group) → List (ℕ × Group)
+madeGroups keeps new groups l = puts (byKey ltb) l groups (λ g. groupAfter keeps new (find eqb l g))
 
-abbrev pub makeGroups : Bool → Group → List ℕ → List (ℕ × Group) → List (ℕ × Group)
-makeGroups keeps new groups l = each (makeGroup keeps new) groups l
+-- its row: made anew from the row that stands at its place, or made from none
+abbrev pub rowFor : Place → ℕ → Bool → List ℕ → Rows → List ℕ
+rowFor (At i) g keeps order rows = madeRow g keeps order (getD rows i [])
+rowFor (Free i) g keeps order rows = madeRow g false order (replicate groupWords 0)
 
 -- what a row has room for
 abbrev pub Fine : Group → Type 0

@@ -1,10 +1,10 @@
 -- The definitions that the contracts of a define cite.
 pub mod Parts
-pub mod Each
-pub mod Takes
+pub mod Putting
 pub mod Pairs
-pub mod Groups
 pub mod Row
+pub mod Groups
+pub mod Carried
 pub mod Sent
 pub mod Totals
 pub mod Tests

@@ -1,17 +1,11 @@
--- Pairs set one after the other, each in its place or behind the others.
+-- Pairs set: every group with every radio, each at its place.
 use Prim.Native.Nat.{ℕ}
 use mathlib.Core.List.{List}
-use Rattle.rules.specs.Arrival.{put}
 use Rattle.rules.specs.Mark.{Mark, fresh}
-use Rattle.rules.specs.Ledger.{Pair, samePair}
-use Rattle.defining.specs.Each.{each}
+use Rattle.rules.specs.Ledger.{Pair}
+use Rattle.rules.specs.Placing.{puts}
+use Rattle.rules.specs.ByNumber.{byKey, belowPair}
+use Rattle.rules.specs.Steps.{product}
 
-abbrev pub setPair : ℕ → ℕ → ℕ → List (Pair × Mark) → List (Pair × Mark)
-setPair state g r l = put samePair l (g, r) (fresh state)
-
--- each radio with a group, and so with each group
-abbrev pub setRadios : ℕ → List ℕ → ℕ → List (Pair × Mark) → List (Pair × Mark)
-setRadios state radios g l = each (setPair state g) radios l
-
-abbrev pub setAll : ℕ → List ℕ → List ℕ → List (Pair × Mark) → List (Pair × Mark)
-setAll state radios groups l = each (setRadios state radios) groups l
+abbrev pub setPairs : ℕ → List ℕ → List ℕ → List (Pair × Mark) → List (Pair × Mark)
+setPairs state radios groups l = puts (byKey belowPair) l (product groups radios) (λ k. fresh state)

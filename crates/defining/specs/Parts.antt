@@ -2,7 +2,7 @@
 use Prim.Native.Nat.{ℕ}
 use mathlib.Core.Bool.{Bool, not, _||_}
 use mathlib.Core.List.{List}
-use Rattle.rules.specs.Lists.{present}
+use Rattle.rules.specs.Lists.{present, rising}
 use Rattle.rules.specs.Number.{untaken}
 use Rattle.rules.specs.Order.{Define, defineGroups, defineRadios, defineOwners}
 use Rattle.rules.specs.Recorded.{defineOf}
@@ -20,7 +20,7 @@ partsOf asker places =
     record {
       named = groupsAs (defineGroups o);
       radios = radiosAs (defineRadios o);
-      owners = ownersAs (defineOwners o);
+      owners = ownersAs (rising (defineOwners o));
       keeps = not (present (o .owners));
       untaken = anyUntaken o;
     }

@@ -1,4 +1,7 @@
 // Groups made or changed by a define.
+use crate::Step;
+use crate::putting::behind;
+use crate::putting::step_after;
 use order::GroupKey;
 use order::Groups;
 use order::keys::group_at;
@@ -9,14 +12,20 @@ use rows::NAME_LENGTH;
 use rows::OWNER_COUNT;
 use store::Place;
 use store::places::group_place;
-ghost use Prim.Native.Nat.{_<_};
+ghost use Prim.Native.Nat.{_+_, _≤_, _<_};
+ghost use lib.Dec.{eqb, ltb};
+ghost use lib.ListN.{length};
+ghost use mathlib.Core.Bool.{true};
+ghost use mathlib.Core.List.{map};
 ghost use mathlib.Core.Path.{_≡_};
 ghost use Rattle.rows.specs.Layout.{groupWords};
 ghost use Rattle.order.specs.Keys.{groupKeys};
-ghost use Rattle.store.specs.Lists.{Fills};
+ghost use Rattle.rules.specs.Lists.{rises};
+ghost use Rattle.order.specs.Walks.{moved, onto};
+ghost use Rattle.store.specs.Places.{placeOf};
 ghost use Rattle.store.specs.Storage.{groupOf, groupRow, groupsOf};
-ghost use Rattle.defining.specs.Groups.{makeGroup, makeGroups, FineGroups, FineOrder};
-ghost use Rattle.defining.specs.Takes.{Takes};
+ghost use Rattle.defining.specs.Groups.{madeGroups, rowFor, FineGroups, FineOrder};
+ghost use Rattle.defining.specs.Putting.{behindOf, Opens, Puts, Takes};
 ghost use Rattle.defining.specs.Row.{keepsWord, madeWord, madeRow};
 
 fn keeps_word(keeps: bool, order: [u64; GROUP_WORDS], j: usize) -> bool
@@ -69,47 +78,84 @@ fn made_row(
     row
 }
 
-// A group is made or made anew, in its place or behind the others; the new count is returned.
-fn put_group(
-    groups: &mut [[u64; GROUP_WORDS]],
-    count: usize,
+// The groups from `from` to `to` move up by so many places.
+fn move_groups(groups: &mut [[u64; GROUP_WORDS]], from: usize, to: usize, by: usize)
+    requires { ⌜ (from ≤ to) × (to + by ≤ length (now groups)) ⌝ }
+    ensures { λ _. ⌜ now (groups .exit) ≡ moved by from to (now (groups .entry)) ⌝ }
+{
+    if by == 0 {
+        return;
+    }
+    let mut i = to;
+    while from < i {
+        i -= 1;
+        let row = groups[i];
+        groups[i + by] = row;
+    }
+}
+
+// The row of a group that is made anew where it stands, or made.
+fn row_for(
+    groups: &[[u64; GROUP_WORDS]],
+    place: Place,
     group: GroupKey,
     keeps: bool,
     order: [u64; GROUP_WORDS],
-) -> usize
-    requires { ⌜ Takes groupOf groupRow (makeGroup keeps (groupOf order .1) (group .0) (groupsOf count (now groups))) (now groups) count
-        × FineGroups (groupsOf count (now groups)) × FineOrder order ⌝ }
-    ensures { λ r. ⌜ Fills groupRow (makeGroup keeps (groupOf order .1) (group .0) (groupsOf count (now (groups .entry))))
-        (now (groups .entry)) (now (groups .exit)) r ⌝ }
+) -> [u64; GROUP_WORDS]
+    requires { ⌜ behindOf place ≤ length (now groups) ⌝ }
+    ensures { λ r. ⌜ r ≡ rowFor place (group .0) keeps order (now (groups .entry)) ⌝ }
 {
-    if let Place::At(i) = group_place(groups, 0, count, group) {
-        let old = groups[i];
-        groups[i] = made_row(group, keeps, order, old);
-        return count;
+    match place {
+        Place::At(i) => made_row(group, keeps, order, groups[i]),
+        Place::Free(_) => made_row(group, false, order, [0; GROUP_WORDS]),
     }
-    groups[count] = made_row(group, false, order, [0; GROUP_WORDS]);
-    count + 1
 }
 
-// Each group of a list is made or made anew.
+// A group is made, or made anew, among those that stand as they were.
+fn make_group(
+    groups: &mut [[u64; GROUP_WORDS]],
+    step: Step,
+    group: GroupKey,
+    keeps: bool,
+    order: [u64; GROUP_WORDS],
+) -> Step
+    requires { ⌜ Opens (placeOf ltb eqb (groupsOf (step .left) (now groups)) (group .0)) (step .left) (step .by) (now groups) ⌝ }
+    ensures { λ r. ⌜ Puts (placeOf ltb eqb (groupsOf (step .left) (now (groups .entry))) (group .0)) (step .left) (step .by)
+        (rowFor (placeOf ltb eqb (groupsOf (step .left) (now (groups .entry))) (group .0)) (group .0) keeps order (now (groups .entry)))
+        (now (groups .entry)) (now (groups .exit)) r ⌝ }
+{
+    let left = step.left;
+    let by = step.by;
+    let place = group_place(groups, left, group);
+    let row = row_for(groups, place, group, keeps, order);
+    let from = behind(place);
+    move_groups(groups, from, left, by);
+    let at = from + by - 1;
+    groups[at] = row;
+    step_after(place, at)
+}
+
+// Each group of a rising list is made, or made anew, from the last down; `more` of them are new.
 pub fn make_groups(
     groups: &mut [[u64; GROUP_WORDS]],
     count: usize,
+    more: usize,
     named: Groups,
     keeps: bool,
     order: [u64; GROUP_WORDS],
-) -> usize
-    requires { ⌜ Takes groupOf groupRow (makeGroups keeps (groupOf order .1) (groupKeys named) (groupsOf count (now groups))) (now groups) count
-        × FineGroups (groupsOf count (now groups)) × FineOrder order ⌝ }
-    ensures { λ r. ⌜ Fills groupRow (makeGroups keeps (groupOf order .1) (groupKeys named) (groupsOf count (now (groups .entry))))
-        (now (groups .entry)) (now (groups .exit)) r ⌝ }
+)
+    requires { ⌜ Takes ltb groupOf groupRow (madeGroups keeps (groupOf order .1) (groupKeys named) (groupsOf count (now groups))) (now groups) count more
+        × FineGroups (groupsOf count (now groups)) × FineOrder order × (rises ltb (groupKeys named) ≡ true) ⌝ }
+    ensures { λ _. ⌜ now (groups .exit) ≡
+        onto (map groupRow (madeGroups keeps (groupOf order .1) (groupKeys named) (groupsOf count (now (groups .entry))))) (now (groups .entry)) ⌝ }
 {
-    let end = group_count(named);
-    let mut k = count;
-    let mut i: usize = 0;
-    while i < end {
-        k = put_group(groups, k, group_at(named, i), keeps, order);
-        i += 1;
+    let mut step = Step {
+        left: count,
+        by: more,
+    };
+    let mut j = group_count(named);
+    while 0 < j {
+        j -= 1;
+        step = make_group(groups, step, group_at(named, j), keeps, order);
     }
-    k
 }

@@ -1,13 +1,14 @@
 // A define: the named groups are made or changed, and the listed radios assigned to them.
+mod carrying;
 mod grouping;
 mod outgoing;
 mod pairing;
 mod parts;
+mod putting;
 mod refusing;
 
-use crate::grouping::make_groups;
+use crate::carrying::carry_out;
 use crate::outgoing::assign_orders;
-use crate::pairing::set_all;
 use crate::parts::parts_of;
 use crate::refusing::define_fault;
 use frame::Record;
@@ -16,15 +17,19 @@ use order::record::first_state;
 use order::row::order_row;
 use replies::Reply;
 use replies::Sent;
-use rows::GROUP_COUNT;
 use rows::GROUP_WORDS;
 use rows::ORDER_WORDS;
-use rows::PAIR_COUNT;
 use rows::PAIR_WORDS;
 ghost use mathlib.Core.Path.{_≡_};
 ghost use Rattle.order.specs.Steps.{defineStep};
 ghost use Rattle.store.specs.Storage.{contents};
 ghost use Rattle.replies.specs.Sending.{Sends};
+
+// How far rows are put, from the last down: so many stand as they were before the last that was put, and so many new ones come among them.
+struct Step {
+    left: usize,
+    by: usize,
+}
 
 // A define: the named groups are made or changed, and the listed radios assigned to them.
 pub fn define(
@@ -45,21 +50,19 @@ pub fn define(
     if let Reply::Refused(refusal) = fault {
         return Sent::Refused(refusal);
     }
-    let group_count = head[GROUP_COUNT];
-    let pair_count = head[PAIR_COUNT];
     let named = parts.named;
     let radios = parts.radios;
     let row = order_row(place, parts.owners);
     let sent = assign_orders(named, radios, out);
-    let made = make_groups(groups, group_count as usize, named, parts.keeps, row);
-    let set = set_all(
+    carry_out(
+        head,
+        groups,
         pairs,
-        pair_count as usize,
         named,
         radios,
+        parts.keeps,
+        row,
         first_state(place),
     );
-    head[GROUP_COUNT] = made as u64;
-    head[PAIR_COUNT] = set as u64;
     Sent::Orders(sent)
 }

@@ -31,8 +31,12 @@ use store::places::stands;
 use table::place::YES;
 use table::place::define::CALL_RELATED;
 ghost use Prim.Native.Nat.{_≤_};
+ghost use lib.Dec.{ltb};
 ghost use lib.ListN.{length};
+ghost use mathlib.Core.Bool.{true};
 ghost use mathlib.Core.Path.{_≡_};
+ghost use Rattle.rules.specs.ByNumber.{lower, belowPair};
+ghost use Rattle.rules.specs.Lists.{rises};
 ghost use Rattle.rules.specs.Recorded.{defineOf};
 ghost use Rattle.rules.specs.Refusals.{maxGroups, maxPairs, first, refuses};
 ghost use Rattle.order.specs.Keys.{groupKeys, radioKeys};
@@ -44,8 +48,8 @@ ghost use Rattle.defining.specs.Totals.{newGroups, newRadios, newPairs};
 ghost use Rattle.defining.specs.Tests.{defineForm, defineStand};
 
 // How many of the named groups are not there yet.
-fn new_groups(groups: &[[u64; GROUP_WORDS]], count: usize, named: Groups) -> usize
-    requires { ⌜ count ≤ length (now groups) ⌝ }
+pub fn new_groups(groups: &[[u64; GROUP_WORDS]], count: usize, named: Groups) -> usize
+    requires { ⌜ (count ≤ length (now groups)) × (rises (lower ltb) (groupsOf count (now groups)) ≡ true) ⌝ }
     ensures { λ r. ⌜ (r ≡ newGroups (groupsOf count (now (groups .entry))) (groupKeys named)) × (r ≤ length (groupKeys named)) ⌝ }
 {
     let end = group_count(named);
@@ -54,7 +58,7 @@ fn new_groups(groups: &[[u64; GROUP_WORDS]], count: usize, named: Groups) -> usi
     while i < end {
         let group = group_at(named, i);
         i += 1;
-        if !stands(group_place(groups, 0, count, group)) {
+        if !stands(group_place(groups, count, group)) {
             n += 1;
         }
     }
@@ -63,7 +67,7 @@ fn new_groups(groups: &[[u64; GROUP_WORDS]], count: usize, named: Groups) -> usi
 
 // How many of the radios have no pair with a group yet.
 fn new_radios(pairs: &[[u64; PAIR_WORDS]], count: usize, group: GroupKey, radios: Radios) -> usize
-    requires { ⌜ count ≤ length (now pairs) ⌝ }
+    requires { ⌜ (count ≤ length (now pairs)) × (rises (lower belowPair) (pairsOf count (now pairs)) ≡ true) ⌝ }
     ensures { λ r. ⌜ (r ≡ newRadios (pairsOf count (now (pairs .entry))) (radioKeys radios) (group .0)) × (r ≤ length (radioKeys radios)) ⌝ }
 {
     let end = radio_count(radios);
@@ -72,7 +76,7 @@ fn new_radios(pairs: &[[u64; PAIR_WORDS]], count: usize, group: GroupKey, radios
     while i < end {
         let radio = radio_at(radios, i);
         i += 1;
-        if !stands(pair_place(pairs, 0, count, group, radio)) {
+        if !stands(pair_place(pairs, count, group, radio)) {
             n += 1;
         }
     }
@@ -80,8 +84,8 @@ fn new_radios(pairs: &[[u64; PAIR_WORDS]], count: usize, group: GroupKey, radios
 }
 
 // How many of the named pairs are not there yet.
-fn new_pairs(pairs: &[[u64; PAIR_WORDS]], count: usize, named: Groups, radios: Radios) -> usize
-    requires { ⌜ count ≤ length (now pairs) ⌝ }
+pub fn new_pairs(pairs: &[[u64; PAIR_WORDS]], count: usize, named: Groups, radios: Radios) -> usize
+    requires { ⌜ (count ≤ length (now pairs)) × (rises (lower belowPair) (pairsOf count (now pairs)) ≡ true) ⌝ }
     ensures { λ r. ⌜ (r ≡ newPairs (pairsOf count (now (pairs .entry))) (radioKeys radios) (groupKeys named)) × (r ≤ 100) ⌝ }
 {
     let end = group_count(named);
@@ -132,7 +136,8 @@ fn define_stand_fault(
     room: usize,
 ) -> Reply
     requires { ⌜ («groups_held» ≤ length (now groups)) × («groups_held» ≤ maxGroups)
-        × («pairs_held» ≤ length (now pairs)) × («pairs_held» ≤ maxPairs) ⌝ }
+        × («pairs_held» ≤ length (now pairs)) × («pairs_held» ≤ maxPairs)
+        × (rises (lower ltb) (groupsOf «groups_held» (now groups)) ≡ true) × (rises (lower belowPair) (pairsOf «pairs_held» (now pairs)) ≡ true) ⌝ }
     ensures { λ r. ⌜ r ≡ replyOf (first (defineStand (groupsOf «groups_held» (now (groups .entry))) (pairsOf «pairs_held» (now (pairs .entry)))
         asker (groupKeys named) (radioKeys radios) room)) ⌝ }
 {

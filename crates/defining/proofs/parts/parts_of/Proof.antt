@@ -1,11 +1,12 @@
 -- `defining::parts_of` meets its contract: the lists read are those of the order.
-use mathlib.Core.Path.{_≡_, refl, ap, _∙_}
+use mathlib.Core.Path.{_≡_, refl, sym, ap, _∙_}
 use mathlib.Core.Bool.{Bool, true, false, cond, not, _||_}
 use mathlib.Core.List.{_∷_}
 use mathlib.Core.Option.{Option, none, some}
-use Rattle.rules.specs.Lists.{present, once}
+use Rattle.rules.specs.Lists.{present, rising}
 use Rattle.rules.specs.Number.{Numbers, key, numbersIn, untaken}
 use Rattle.rules.specs.Recorded.{defineOf}
+use Rattle.rules.proofs.ListLaws.{rising-once}
 use Rattle.order.specs.Keys.{groupsAs, radiosAs, ownersAs}
 use Rattle.order.specs.Lists.{listOf}
 use Rattle.order.specs.Recorded.{ownerList}
@@ -60,8 +61,9 @@ returns c =
     ∙ ap (λ (d : DefineLists). radiosAs (numbersIn (listOf (d .radios)))) lists
     ∙ ap (λ (n : Option Numbers). radiosAs (numbersIn n)) rs in
     let owners = c .before .before .before .before .owners-in .ensures
-    ∙ ap (λ (d : DefineLists). ownersAs (once (key (a .asker .0) ∷ numbersIn (listOf (d .owners))))) lists
-    ∙ ap (λ (n : Option Numbers). ownersAs (once (key (a .asker .0) ∷ numbersIn n))) os in
+    ∙ ap (λ (d : DefineLists). ownersAs (rising (key (a .asker .0) ∷ numbersIn (listOf (d .owners))))) lists
+    ∙ ap (λ (n : Option Numbers). ownersAs (rising (key (a .asker .0) ∷ numbersIn n))) os
+    ∙ ap ownersAs (sym (rising-once (key (a .asker .0) ∷ numbersIn (defineOf (a .asker .0) (a .place) .owners)))) in
     let keeps = ap (λ (d : DefineLists). not (d .owners .given)) lists ∙ ap not (given-present (ownerList (a .place)))
     ∙ ap (λ (n : Option Numbers). not (present n)) os in
     let groups-un = c .before .before .untaken .ensures ∙ ap (λ (d : DefineLists). untaken (listOf (d .groups))) lists ∙ ap untaken gs in
