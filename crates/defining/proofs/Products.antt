@@ -3,7 +3,7 @@ use mathlib.Core.Path.{_≡_, refl, sym, ap, _∙_}
 use mathlib.Core.Bool.{true}
 use mathlib.Core.List.{List, [], _∷_, _++_, map}
 use Prim.Native.Nat.{ℕ, zero, suc, _+_, _-_, _*_, _/_, _%_, _≤_, _<_}
-use native.Mathlib.Nat.{suc-mul, div-eq-of-lt, mod-eq-of-lt, add-div-left, add-mod-left}
+use native.Mathlib.Nat.{mul-le-mul, suc-mul, div-eq-of-lt, mod-eq-of-lt, add-div-left, add-mod-left}
 use native.Mathlib.Numerals.{add-one}
 use native.Mathlib.Omega.{arith}
 use lib.Dec.{ltb}
@@ -16,6 +16,10 @@ use Rattle.rules.specs.Steps.{product}
 use Rattle.rules.proofs.Tests.{split}
 use Rattle.rules.proofs.Rises.{Over, Climbs}
 use Rattle.rules.proofs.ByNumber.{pair-low, pair-level}
+use Rattle.order.specs.Keys.{groupKeys, radioKeys}
+use Rattle.order.specs.declared.Groups.{Groups}
+use Rattle.order.specs.declared.Radios.{Radios}
+use Rattle.order.proofs.KeyLaws.{few-groups, few-radios}
 
 -- a group's pairs, and those of the groups above it
 row-over : (g r : ℕ) (rs : List ℕ) (rest : List Pair) → Over ltb r rs → Over belowPair (g, r) rest
@@ -54,7 +58,7 @@ row-at g [] j q = absurd (omega arith)
 row-at g (r ∷ rs) zero q = refl
 row-at g (r ∷ rs) (suc j) q = row-at g rs j (omega arith)
 
-some-radios : (n m i : ℕ) → i < n * m → 0 < m
+pub some-radios : (n m i : ℕ) → i < n * m → 0 < m
 some-radios n zero i q = absurd (omega arith)
 some-radios n (suc m) i q = omega arith
 
@@ -91,3 +95,16 @@ product-at (g ∷ gs) rs j h = split (ltb j (length rs))
         let k : j ≡ length row + i = e ∙ ap (λ (x : ℕ). x + i) (sym n) in
         ap (λ (x : ℕ). getD (row ++ product gs rs) x (0, 0)) k ∙ getD-append-add row (product gs rs) i (0, 0) ∙ known
         ∙ (λ t. (getD (g ∷ gs) (d t) 0, getD rs (r t) 0))
+
+-- the pair of the group and the radio that are read off there
+pub key-at : (gs rs : List ℕ) (j width g r : ℕ) → width ≡ length rs → g ≡ getD gs (j / width) 0 → r ≡ getD rs (j % width) 0 → j < length gs * length rs
+    → _≡_ {A = Pair} (g, r) (getD (product gs rs) j (0, 0))
+key-at gs rs j width g r w a b h =
+    let a′ : g ≡ getD gs (j / length rs) 0 = a ∙ ap (λ (x : ℕ). getD gs (j / x) 0) w in
+    let b′ : r ≡ getD rs (j % length rs) 0 = b ∙ ap (λ (x : ℕ). getD rs (j % x) 0) w in
+    (λ i. (a′ i, b′ i)) ∙ sym (product-at gs rs j h)
+
+-- a hundred pairs at most
+pub few-product : (groups : Groups) (radios : Radios) → length (groups .key) ≡ 10 → length (radios .key) ≡ 10
+    → length (groupKeys groups) * length (radioKeys radios) ≤ 10 * 10
+few-product groups radios n m = mul-le-mul (few-groups groups n) (few-radios radios m)
