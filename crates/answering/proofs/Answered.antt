@@ -18,7 +18,7 @@ use Rattle.rules.proofs.Walks.{alter-all}
 use Rattle.order.specs.Steps.{answerStep}
 use Rattle.order.specs.declared.Gtsi.{Gtsi}
 use Rattle.order.specs.declared.Itsi.{Itsi}
-use Rattle.store.specs.Lists.{onto}
+use Rattle.order.specs.Walks.{onto}
 use Rattle.store.specs.Places.{foundOf}
 use Rattle.store.specs.Storage.{Contents, contents, groupRow, groupsOf, pairRow, pairsOf, groupCount, pairCount, placing, ledgerOf, laid}
 use Rattle.store.specs.Form.{Sound}

@@ -4,33 +4,40 @@ use order::Gtsi;
 use order::Itsi;
 use order::Radios;
 use order::keys::group_key;
-use order::keys::one_group;
-use order::keys::one_radio;
 use order::keys::radio_key;
 use order::lists::wide;
 use refusal::Refusal;
 use replies::Reply;
+use rows::CONFIRMED;
 use rows::GROUP_COUNT;
 use rows::GROUP_WORDS;
 use rows::MAX_LISTED;
 use rows::PAIR_COUNT;
+use rows::PAIR_GROUP;
+use rows::PAIR_RADIO;
 use rows::PAIR_WORDS;
 use rows::UNHEARD;
 use rows::WAITING;
 use store::Found;
+use store::Place;
 use store::form::roomy;
 use store::form::written;
 use store::places::find;
 use store::places::group_place;
+use store::places::pair_place;
 use store::places::stands;
 use turning::Turn;
 use turning::turn_pairs;
+ghost use Prim.Native.Nat.{_≤_, _<_};
+ghost use lib.ListN.{length, getD};
+ghost use mathlib.Core.List.{[]};
 ghost use mathlib.Core.Path.{_≡_};
 ghost use Rattle.rules.specs.Order.{tick};
 ghost use Rattle.order.specs.Steps.{answerStep};
-ghost use Rattle.store.specs.Storage.{contents};
+ghost use Rattle.store.specs.Lists.{Fills, Plain};
+ghost use Rattle.store.specs.Storage.{contents, pairOf, pairRow, pairsOf};
 ghost use Rattle.replies.specs.Orders.{Begins, Judges, Replies};
-ghost use Rattle.answering.specs.Answers.{answerTurn, foundOpen};
+ghost use Rattle.answering.specs.Answers.{foundOpen, settled, closed};
 
 // The most that a result can be.
 const LAST_RESULT: u64 = 4;
@@ -102,7 +109,7 @@ fn answer_fault(
     }
     let group_count = head[GROUP_COUNT];
     let pair_count = head[PAIR_COUNT];
-    if !stands(group_place(groups, 0, group_count as usize, group_key(group))) {
+    if !stands(group_place(groups, group_count as usize, group_key(group))) {
         return Reply::Refused(Refusal::NoSuchGroup);
     }
     if !is_open(find(
@@ -116,14 +123,32 @@ fn answer_fault(
     Reply::Done
 }
 
-// Result 1 confirms the pair; 2, 3 and 4 take it away.
-fn answer_turn(result: u64) -> Turn
-    ensures { λ r. ⌜ r ≡ answerTurn result ⌝ }
+// Of the first `count` pairs those behind place `at` move down by one.
+fn close_gap(pairs: &mut [[u64; PAIR_WORDS]], at: usize, count: usize)
+    requires { ⌜ (at < count) × (count ≤ length (now pairs)) ⌝ }
+    ensures { λ _. ⌜ now (pairs .exit) ≡ closed at count (now (pairs .entry)) ⌝ }
+{
+    let mut i = at + 1;
+    while i < count {
+        let row = pairs[i];
+        pairs[i - 1] = row;
+        i += 1;
+    }
+}
+
+// Result 1 confirms the pair at a place; 2, 3 and 4 take it away. The new count is returned.
+fn settle(pairs: &mut [[u64; PAIR_WORDS]], count: usize, at: usize, result: u64) -> usize
+    requires { ⌜ (at < count) × (count ≤ length (now pairs)) × Plain pairOf pairRow count (now pairs) ⌝ }
+    ensures { λ r. ⌜ Fills pairRow (settled (pairOf (getD (now (pairs .entry)) at []) .0) result at (pairsOf count (now (pairs .entry))))
+        (now (pairs .entry)) (now (pairs .exit)) r ⌝ }
 {
     if result == ACCEPTED {
-        return Turn::Confirm;
+        let row = pairs[at];
+        pairs[at] = [row[PAIR_GROUP], row[PAIR_RADIO], CONFIRMED, 0];
+        return count;
     }
-    Turn::Leave
+    close_gap(pairs, at, count);
+    count - 1
 }
 
 // A radio's answer to its assignment.
@@ -142,15 +167,11 @@ pub fn answer(
     let Reply::Done = fault else {
         return fault;
     };
-    let turn = answer_turn(result);
     let count = head[PAIR_COUNT];
-    let kept = turn_pairs(
-        pairs,
-        count as usize,
-        turn,
-        one_group(group_key(group)),
-        one_radio(radio_key(radio)),
-    );
+    let Place::At(i) = pair_place(pairs, count as usize, group_key(group), radio_key(radio)) else {
+        return fault;
+    };
+    let kept = settle(pairs, count as usize, i, result);
     head[PAIR_COUNT] = kept as u64;
     Reply::Done
 }

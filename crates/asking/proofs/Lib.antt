@@ -1,6 +1,6 @@
 -- Laws of the questions.
 pub mod Asking
-pub mod Gaps
+pub mod Copying
 pub mod Listing
 pub mod Showing
 pub mod Unique

@@ -1,37 +1,47 @@
--- Laws of a group's list on lent contents.
+-- Laws of a group's list on lent contents: its stretch, copied.
 use mathlib.Core.Path.{_≡_, refl, sym, ap, _∙_}
-use mathlib.Core.List.{List, [], _∷_, map}
+use mathlib.Core.List.{List, [], _∷_, map, map-map}
 use mathlib.Core.Bool.{Bool, true, false, cond}
 use mathlib.Core.Option.{none, some}
-use Prim.Native.Nat.{ℕ, _≤_, _<_}
+use Prim.Native.Nat.{ℕ, zero, suc, _+_, _-_, _≤_, _<_}
+use native.Mathlib.Omega.{arith}
 use lib.Dec.{ltb}
 use lib.ListN.{length, length-map}
+use lib.Seq.{drop-nil, take-take}
 use borrow.Author.Tests.{lt-ltb, le-ltb}
 use Rattle.refusal.specs.declared.Refusal.{Refusal}
 use Rattle.refusal.specs.declared.Refusal.the-variants.{NotWritten, NoRoom}
 use Rattle.rules.specs.Refusals.{askTests, showRefusal, listRefusal}
-use Rattle.rules.specs.Replies.{entries}
-use Rattle.rules.specs.Ledger.{view, members, list}
-use Rattle.rules.specs.Listing.{listedIn}
-use Rattle.rules.proofs.Arrival.{by-arrival}
-use Rattle.rules.proofs.Effects.{pairs-single}
-use Rattle.rules.proofs.Written.{Form, written-form}
+use Rattle.rules.specs.Replies.{Entry, entries}
+use Rattle.rules.specs.Mark.{Mark}
+use Rattle.rules.specs.Ledger.{Pair, view, members, list}
+use Rattle.rules.specs.Listing.{gathered}
 use Rattle.rules.proofs.Listing.{listed-members}
 use Rattle.order.specs.declared.Gtsi.{Gtsi}
 use Rattle.order.specs.declared.Itsi.{Itsi}
-use Rattle.store.specs.Lists.{onto}
-use Rattle.store.specs.Storage.{Rows, Contents, placing, ledgerOf}
+use Rattle.order.specs.Walks.{left, onto}
+use Rattle.store.specs.Storage.{Rows, Contents, pairOf, pairCount, ledgerOf}
+use Rattle.store.specs.Places.{stretchOf}
 use Rattle.store.specs.Form.{isWritten, Sound}
-use Rattle.store.proofs.FormLaws.{law-form}
+use Rattle.store.specs.declared.Stretch.{Stretch}
+use Rattle.store.proofs.FormLaws.{pairs-rise, radios-narrow}
+use Rattle.store.proofs.HalvingLaws.{item-at}
+use Rattle.store.proofs.Stretches.{Stretched, stretched}
 use Rattle.replies.specs.Orders.{JudgesAsker}
 use Rattle.replies.specs.Listing.{entryRow, membersOf, Enumerates}
 use Rattle.replies.specs.declared.Reply.{Reply}
 use Rattle.replies.specs.declared.Reply.the-variants.{Done, Refused}
 use Rattle.replies.specs.declared.Members.the-variants as members
-use Rattle.gathering.specs.Rows.{fitting}
-use Rattle.gathering.proofs.Members.{fits, fits-not}
-use Rattle.replies.proofs.Orders.{first-none, first-some, reply-some}
+use Rattle.replies.proofs.Orders.{first-none, first-some, reply-some, count-pairs}
+use Rattle.asking.specs.Copied.{InStretch, listed, copied}
 use Rattle.asking.proofs.Asking.{asked-none}
+use Rattle.asking.proofs.Copying.{copied-length}
+
+left-map : {A B : Type 0} (f : A → B) (i n : ℕ) (l : List A) → left i n (map f l) ≡ map f (left i n l)
+left-map f i zero l = drop-nil i ∙ ap (map f) (sym (drop-nil i))
+left-map f i (suc n) [] = drop-nil i ∙ ap (map f) (sym (drop-nil i))
+left-map f zero (suc n) (x ∷ l) = ap (λ z. f x ∷ z) (left-map f zero n l)
+left-map f (suc i) (suc n) (x ∷ l) = left-map f i n l
 
 module _ (c : Contents) (asker : Itsi) (group : Gtsi) (room : Rows) where
   abbrev last : List (Refusal × Bool)
@@ -47,33 +57,70 @@ module _ (c : Contents) (asker : Itsi) (group : Gtsi) (room : Rows) where
       go true q = rw (first-some (askTests (view (ledgerOf c)) (asker .0) (group .0)) last r q) (refl, refl)
       go false q = let z : NotWritten ≡ r = cc in (ap members.Refused (sym z), refl)
 
-  -- the asker may see the list: what the room then holds where it fits, and where not
-  module _ {reply : Reply} (j : JudgesAsker c asker group reply) (done : reply ≡ Done) (g n : ℕ) (d : g ≡ group .0)
-      (m : n ≡ length (listedIn g (ledgerOf c .pairs))) (room′ : Rows)
-      (f : room′ ≡ onto (map entryRow (fitting (ledgerOf c .pairs) room (listedIn g (ledgerOf c .pairs)))) room) where
+  -- a stretch holds the list: what the room then holds where it fits, and where not
+  pub record Holds (g : ℕ) (s : Stretch) : Type 0 where
+    pub ordered : s .from ≤ s .to
+    pub mine : InStretch g (s .from) (s .to - s .from) (c .pairs)
+    pub full : length room < s .to - s .from → Enumerates c asker group room room (members.Refused NoRoom)
+    pub fits : s .to - s .from ≤ length room → (room′ : Rows) → room′ ≡ onto (copied (s .from) (s .to - s .from) (c .pairs)) room
+        → Enumerates c asker group room room′ (members.Radios (s .to - s .from))
+
+  -- the asker may see the list, and the stretch is the group's
+  module _ {reply : Reply} (j : JudgesAsker c asker group reply) (done : reply ≡ Done) (g : ℕ) (d : g ≡ group .0) (s : Stretch)
+      (e : s ≡ stretchOf (ledgerOf c .pairs) g) where
     abbrev w : Sound c
     w = j .sound done
 
-    form : Form placing (ledgerOf c)
-    form = written-form placing (ledgerOf c) (law-form c w)
+    stretch : Stretched (ledgerOf c .pairs) g s
+    stretch = rw e (stretched (ledgerOf c .pairs) g (pairs-rise c w) (radios-narrow c w))
 
-    listed : listedIn g (ledgerOf c .pairs) ≡ entries (view (ledgerOf c)) (members (ledgerOf c) (group .0)) (group .0)
-    listed = rw d (listed-members (ledgerOf c) (group .0) (pairs-single placing by-arrival (ledgerOf c) (form .standing)))
+    in-stretch : InStretch g (s .from) (s .to - s .from) (c .pairs)
+    in-stretch =
+        let t = stretch in
+        let n = count-pairs c w in
+        record {
+          inside = omega (arith, w .pairs, w .fewPairs);
+          group = λ i h.
+              let k : s .from + i < pairCount c = omega arith in
+              rw (item-at pairOf (c .pairs) (pairCount c) (s .from + i) k) at (t .group (s .from + i) (pairOf []) (omega arith) (omega arith));
+        }
+
+    abbrev listing : List Entry
+    listing = entries (view (ledgerOf c)) (members (ledgerOf c) (group .0)) (group .0)
+
+    -- the stretch among the rows is that among the pairs
+    pairs-there : map pairOf (left (s .from) (s .from + (s .to - s .from)) (c .pairs)) ≡ left (s .from) (s .to) (ledgerOf c .pairs)
+    pairs-there =
+        let t = stretch in
+        let n = count-pairs c w in
+        let m : s .from + (s .to - s .from) ≡ s .to = omega arith in
+        let k : s .to ≤ pairCount c = omega arith in
+        rw (m, left-map, take-take (s .to) (pairCount c) (c .pairs) k)
+
+    rows : copied (s .from) (s .to - s .from) (c .pairs) ≡ map entryRow listing
+    rows =
+        let k = left (s .from) (s .from + (s .to - s .from)) (c .pairs) in
+        let law : gathered g (ledgerOf c .pairs) ≡ listing = rw d (listed-members (ledgerOf c) (group .0) (pairs-rise c w)) in
+        sym (map-map _ pairOf k) ∙ sym (map-map entryRow listed (map pairOf k))
+        ∙ ap (λ (z : List (Pair × Mark)). map entryRow (map listed z)) pairs-there ∙ ap (map entryRow) (sym (stretch .listed) ∙ law)
+
+    counted : s .to - s .from ≡ length listing
+    counted = sym (copied-length (s .from) (s .to - s .from) (c .pairs) (in-stretch .inside)) ∙ ap length rows ∙ length-map listing entryRow
 
     refusal : listRefusal (view (ledgerOf c)) (asker .0) (group .0) (members (ledgerOf c) (group .0)) (length room)
-        ≡ cond (ltb (length room) n) (some NoRoom) none
+        ≡ cond (ltb (length room) (s .to - s .from)) (some NoRoom) none
     refusal =
         first-none (askTests (view (ledgerOf c)) (asker .0) (group .0)) last (asked-none c asker group j done)
-        ∙ ap (λ (z : ℕ). cond (ltb (length room) z) (some NoRoom) none) (sym (m ∙ ap length listed ∙ length-map (members (ledgerOf c) (group .0)) _))
+        ∙ ap (λ (z : ℕ). cond (ltb (length room) z) (some NoRoom) none) (sym (counted ∙ length-map (members (ledgerOf c) (group .0)) _))
 
-    pub list-full : length room < n → Enumerates c asker group room room′ (members.Refused NoRoom)
-    list-full h = let t = lt-ltb (length room) n h in record {
-      replies = rw (w .form, refusal, t);
-      lists = f ∙ rw (w .form, refusal, t, fits-not (ledgerOf c .pairs) room (listedIn g (ledgerOf c .pairs)) (rw m at h));
-    }
-
-    pub list-taken : n ≤ length room → Enumerates c asker group room room′ (members.Radios n)
-    list-taken h = let t = le-ltb (length room) n h in record {
-      replies = rw (w .form, refusal, t) (ap members.Radios (m ∙ ap length listed));
-      lists = f ∙ rw (w .form, refusal, t, fits (ledgerOf c .pairs) room (listedIn g (ledgerOf c .pairs)) (form .few-pairs) (rw m at h), listed);
+    pub holds : Holds g s
+    holds = record {
+      ordered = stretch .ordered;
+      mine = in-stretch;
+      full = λ h.
+          let t = lt-ltb (length room) (s .to - s .from) h in
+          record { replies = rw (w .form, refusal, t); lists = rw (w .form, refusal, t) };
+      fits = λ h room′ f.
+          let t = le-ltb (length room) (s .to - s .from) h in
+          record { replies = rw (w .form, refusal, t) (ap members.Radios counted); lists = f ∙ rw (w .form, refusal, t) (ap (λ (z : Rows). onto z room) rows) };
     }

@@ -1,2 +1,2 @@
--- The definitions that the contracts of a show cite.
-pub mod Keys
+-- The definitions that the contracts of a list cite.
+pub mod Copied

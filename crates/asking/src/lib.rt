@@ -3,9 +3,10 @@ mod telling;
 
 use crate::telling::shown_none;
 use crate::telling::shown_row;
-use gathering::list_members;
+use order::GroupKey;
 use order::Gtsi;
 use order::Itsi;
+use order::RadioKey;
 use order::keys::group_key;
 use order::keys::radio_key;
 use order::lists::wide;
@@ -17,17 +18,25 @@ use rows::ENTRY_WORDS;
 use rows::GROUP_COUNT;
 use rows::GROUP_WORDS;
 use rows::PAIR_COUNT;
+use rows::PAIR_RADIO;
 use rows::PAIR_WORDS;
+use store::Found;
 use store::Owned;
 use store::Place;
 use store::form::written;
 use store::named::owned_by;
 use store::places::group_place;
+use store::places::state_in;
+use store::places::stretch_of;
+ghost use Prim.Native.Nat.{_≤_};
+ghost use lib.ListN.{length};
 ghost use mathlib.Core.Path.{_≡_};
+ghost use Rattle.order.specs.Walks.{onto};
 ghost use Rattle.store.specs.Storage.{contents};
 ghost use Rattle.replies.specs.Listing.{Enumerates};
 ghost use Rattle.replies.specs.Orders.{JudgesAsker};
 ghost use Rattle.replies.specs.Showing.{showOn, shownOf};
+ghost use Rattle.asking.specs.Copied.{InStretch, copied};
 
 // What a list or a show is refused with, room apart.
 fn ask_fault(
@@ -54,6 +63,27 @@ fn ask_fault(
     }
 }
 
+// A stretch of a group's pairs is copied: each radio with its state.
+fn copy_stretch(
+    pairs: &[[u64; PAIR_WORDS]],
+    from: usize,
+    count: usize,
+    group: GroupKey,
+    out: &mut [[u64; ENTRY_WORDS]],
+)
+    requires { ⌜ InStretch (group .0) from count (now pairs) × (count ≤ length (now out)) ⌝ }
+    ensures { λ _. ⌜ now (out .exit) ≡ onto (copied from count (now (pairs .entry))) (now (out .entry)) ⌝ }
+{
+    let mut i: usize = 0;
+    while i < count {
+        let row = pairs[from + i];
+        if let Found::Held(state) = state_in(row, group, RadioKey(row[PAIR_RADIO])) {
+            out[i] = [row[PAIR_RADIO], state];
+        }
+        i += 1;
+    }
+}
+
 // A group's radios and their states, rising, for one of its owners.
 pub fn list(
     head: &[u64],
@@ -71,10 +101,13 @@ pub fn list(
         return Members::Refused(refusal);
     }
     let count = head[PAIR_COUNT];
-    let listed = list_members(pairs, count as usize, group_key(group), out);
+    let key = group_key(group);
+    let stretch = stretch_of(pairs, count as usize, key);
+    let listed = stretch.to - stretch.from;
     if out.len() < listed {
         return Members::Refused(Refusal::NoRoom);
     }
+    copy_stretch(pairs, stretch.from, listed, key, out);
     Members::Radios(listed)
 }
 
@@ -93,7 +126,7 @@ pub fn show(
         return shown_none(fault);
     };
     let count = head[GROUP_COUNT];
-    let Place::At(i) = group_place(groups, 0, count as usize, group_key(group)) else {
+    let Place::At(i) = group_place(groups, count as usize, group_key(group)) else {
         return shown_none(fault);
     };
     shown_row(groups[i])

@@ -5,7 +5,7 @@ use mathlib.Core.List.{List, [], _∷_, _++_}
 use mathlib.Core.Option.{none}
 use Prim.Native.Nat.{ℕ, _≤_}
 use lib.Dec.{eqb, ltb}
-use lib.ListN.{length, set}
+use lib.ListN.{length}
 use borrow.Author.Tests.{ltb-false}
 use Rattle.refusal.specs.declared.Refusal.{Refusal}
 use Rattle.refusal.specs.declared.Refusal.the-variants.{BadOrder, FormNotTaken, NotOwner, Full, NoRoom}
@@ -21,7 +21,7 @@ use Rattle.rules.specs.Outgoing.{assign}
 use Rattle.rules.specs.Recorded.{optional, optionalName, parametersIn, acknowledgementRequested, defineOf}
 use Rattle.rules.specs.Refusals.{first, tests, refuses, maxGroups, maxPairs}
 use Rattle.rules.specs.Ledger.{Group, Ledger, view}
-use Rattle.rules.specs.Steps.{given, groupAfter, tally, apply, refused}
+use Rattle.rules.specs.Steps.{given, tally, apply, refused}
 use Rattle.rules.specs.Written.{maxOwners}
 use Rattle.rules.proofs.Tests.{or-l, or-r}
 use Rattle.rules.proofs.Walks.{length-orders}
@@ -35,16 +35,14 @@ use Rattle.order.specs.Row.{orderRowOf}
 use Rattle.order.specs.Steps.{defineStep}
 use Rattle.order.specs.declared.Itsi.{Itsi}
 use Rattle.order.specs.declared.RadioKey.{RadioKey}
-use Rattle.order.specs.Walks.{onto}
-use Rattle.store.specs.Lists.{Fills}
-use Rattle.store.specs.Storage.{Rows, Contents, contents, placing, groupOf, groupRow, pairRow, ledgerOf, laid}
+use Rattle.store.specs.Storage.{Contents, placing, groupOf, ledgerOf}
 use Rattle.store.specs.Form.{Sound}
 use Rattle.store.specs.Named.{groupFault}
 use Rattle.store.specs.declared.Standing.the-variants.{Taken}
 use Rattle.store.proofs.FormLaws.{law-form}
 use Rattle.replies.specs.Orders.{replyOf, verdict}
 use Rattle.replies.specs.declared.Reply.the-variants.{Done, Refused}
-use Rattle.replies.proofs.Orders.{set-both, first-none, first-some, reply-none, reply-some, tests-pass}
+use Rattle.replies.proofs.Orders.{first-none, first-some, reply-none, reply-some, tests-pass}
 use Rattle.defining.specs.Parts.{anyUntaken}
 use Rattle.defining.specs.Carried.{carried}
 use Rattle.defining.specs.Sent.{assignOrders}

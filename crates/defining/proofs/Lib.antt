@@ -7,5 +7,6 @@ pub mod Products
 pub mod OrderRows
 pub mod Assigning
 pub mod Standing
+pub mod Carried
 pub mod Defining
 pub mod Unique

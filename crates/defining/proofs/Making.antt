@@ -23,7 +23,7 @@ use Rattle.store.specs.declared.Place.{Place}
 use Rattle.store.specs.declared.Place.the-variants.{At, Free}
 use Rattle.store.proofs.Rows.{length-items}
 use Rattle.store.proofs.HalvingLaws.{item-at}
-use Rattle.store.proofs.Groups.{name-few, group-back}
+use Rattle.store.proofs.Groups.{name-few}
 use Rattle.order.specs.Row.{heldOf, lettersOf, words}
 use Rattle.defining.specs.Row.{madeRow}
 use Rattle.defining.specs.Groups.{rowFor, Fine, FineGroups, FineOrder}

@@ -28,7 +28,8 @@ use Rattle.order.specs.Lists.{numbersOf, listOf}
 use Rattle.order.specs.Steps.{deleteStep}
 use Rattle.order.specs.declared.Itsi.{Itsi}
 use Rattle.order.specs.declared.Listed.{Listed}
-use Rattle.store.specs.Lists.{onto, Fills}
+use Rattle.order.specs.Walks.{onto}
+use Rattle.store.specs.Lists.{Fills}
 use Rattle.store.specs.Storage.{Rows, Contents, contents, groupRow, pairRow, placing, ledgerOf, laid}
 use Rattle.store.specs.Form.{Sound}
 use Rattle.store.proofs.FormLaws.{law-form}

@@ -13,9 +13,9 @@ use Rattle.rules.specs.Ledger.{Pair}
 use Rattle.rules.specs.Refusals.{maxPairs}
 use Rattle.rules.specs.Outgoing.{Outgoing, deassign, orders}
 use Rattle.rules.proofs.Walks.{keep-append}
-use Rattle.store.specs.Lists.{onto}
+use Rattle.order.specs.Walks.{onto}
 use Rattle.store.specs.Storage.{Rows}
-use Rattle.store.proofs.Rows.{onto-length, onto-more}
+use Rattle.order.proofs.Walks.{onto-length, onto-more}
 use Rattle.replies.specs.Sending.{orderRow}
 use Rattle.gathering.proofs.Members.{taken-front}
 use Rattle.sending.specs.Pushed.{pushed}

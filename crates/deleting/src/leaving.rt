@@ -1,20 +1,25 @@
 // The radios that a delete deassigns in a group.
-use gathering::all_members;
 use order::GroupKey;
 use order::Radios;
 use order::keys::radio_at;
 use order::keys::radio_count;
+use rows::MAX_LISTED;
+use rows::ORDER_WORDS;
+use rows::PAIR_RADIO;
 use rows::PAIR_WORDS;
+use sending::DEASSIGN;
+use sending::push_orders;
 use store::places::pair_place;
 use store::places::stands;
-ghost use Prim.Native.Nat.{_≤_};
+use store::places::stretch_of;
+ghost use Prim.Native.Nat.{_+_, _-_, _≤_};
 ghost use lib.ListN.{length};
+ghost use lib.Seq.{paste};
 ghost use mathlib.Core.Path.{_≡_};
-ghost use Rattle.rules.specs.Refusals.{maxPairs};
 ghost use Rattle.order.specs.Keys.{radioKeys};
-ghost use Rattle.store.specs.Lists.{onto};
+ghost use Rattle.order.specs.Walks.{onto};
 ghost use Rattle.store.specs.Storage.{pairsOf};
-ghost use Rattle.deleting.specs.Leaving.{among, leaving};
+ghost use Rattle.deleting.specs.Leaving.{among, leaving, Stretches, leavingRows, stretchRadios};
 
 // The listed radios that a group has; their number is returned.
 fn found_among(
@@ -24,7 +29,7 @@ fn found_among(
     radios: Radios,
     out: &mut [u64],
 ) -> usize
-    requires { ⌜ (count ≤ length (now pairs)) × (length (radioKeys radios) ≤ length (now out)) ⌝ }
+    requires { ⌜ Stretches count (now pairs) × (length (radioKeys radios) ≤ length (now out)) ⌝ }
     ensures { λ r. ⌜ (r ≡ length (among (pairsOf count (now (pairs .entry))) (group .0) (radioKeys radios)))
         × (now (out .exit) ≡ onto (among (pairsOf count (now (pairs .entry))) (group .0) (radioKeys radios)) (now (out .entry))) ⌝ }
 {
@@ -34,7 +39,7 @@ fn found_among(
     while i < end {
         let radio = radio_at(radios, i);
         i += 1;
-        if stands(pair_place(pairs, 0, count, group, radio)) {
+        if stands(pair_place(pairs, count, group, radio)) {
             out[kept] = radio.0;
             kept += 1;
         }
@@ -42,26 +47,77 @@ fn found_among(
     kept
 }
 
-// The radios that a delete deassigns in a group.
-pub fn leaving(
+// How many radios a delete deassigns in a group.
+pub fn count_leaving(
     pairs: &[[u64; PAIR_WORDS]],
     count: usize,
     group: GroupKey,
     deassign: bool,
     listed: bool,
     radios: Radios,
-    out: &mut [u64],
 ) -> usize
-    requires { ⌜ (count ≤ length (now pairs)) × (count ≤ maxPairs) × (maxPairs ≤ length (now out)) ⌝ }
-    ensures { λ r. ⌜ (r ≡ length (leaving deassign listed (radioKeys radios) (pairsOf count (now (pairs .entry))) (group .0)))
-        × (now (out .exit) ≡ onto (leaving deassign listed (radioKeys radios) (pairsOf count (now (pairs .entry))) (group .0)) (now (out .entry)))
-        × (r ≤ maxPairs) ⌝ }
+    requires { ⌜ Stretches count (now pairs) ⌝ }
+    ensures { λ r. ⌜ r ≡ length (leaving deassign listed (radioKeys radios) (pairsOf count (now (pairs .entry))) (group .0)) ⌝ }
 {
     if !deassign {
         return 0;
     }
     if listed {
-        return found_among(pairs, count, group, radios, out);
+        let mut room = [0u64; MAX_LISTED];
+        return found_among(pairs, count, group, radios, &mut room);
     }
-    all_members(pairs, count, group, out)
+    let stretch = stretch_of(pairs, count, group);
+    stretch.to - stretch.from
+}
+
+// A deassign order to each radio of a stretch, from place `at` on.
+fn push_stretch(
+    pairs: &[[u64; PAIR_WORDS]],
+    from: usize,
+    to: usize,
+    group: GroupKey,
+    out: &mut [[u64; ORDER_WORDS]],
+    at: usize,
+)
+    requires { ⌜ (from ≤ to) × (to ≤ length (now pairs)) × (at + (to - from) ≤ length (now out)) ⌝ }
+    ensures { λ _. ⌜ now (out .exit) ≡ paste (now (out .entry)) at (leavingRows (group .0) (stretchRadios from to (now (pairs .entry)))) (to - from) ⌝ }
+{
+    let count = to - from;
+    let mut i: usize = 0;
+    while i < count {
+        let row = pairs[from + i];
+        out[at + i] = [DEASSIGN, row[PAIR_RADIO], group.0];
+        i += 1;
+    }
+}
+
+// Deassign orders to the radios that leave a group, from place `at` on; how many they are.
+pub fn push_leaving(
+    pairs: &[[u64; PAIR_WORDS]],
+    count: usize,
+    group: GroupKey,
+    deassign: bool,
+    listed: bool,
+    radios: Radios,
+    out: &mut [[u64; ORDER_WORDS]],
+    at: usize,
+) -> usize
+    requires { ⌜ Stretches count (now pairs)
+        × (at + length (leaving deassign listed (radioKeys radios) (pairsOf count (now pairs)) (group .0)) ≤ length (now out)) ⌝ }
+    ensures { λ r. ⌜ (r ≡ length (leaving deassign listed (radioKeys radios) (pairsOf count (now (pairs .entry))) (group .0)))
+        × (now (out .exit) ≡ paste (now (out .entry)) at
+        (leavingRows (group .0) (leaving deassign listed (radioKeys radios) (pairsOf count (now (pairs .entry))) (group .0))) r) ⌝ }
+{
+    if !deassign {
+        return 0;
+    }
+    if listed {
+        let mut room = [0u64; MAX_LISTED];
+        let n = found_among(pairs, count, group, radios, &mut room);
+        push_orders(out, at, DEASSIGN, group, &room[..n]);
+        return n;
+    }
+    let stretch = stretch_of(pairs, count, group);
+    push_stretch(pairs, stretch.from, stretch.to, group, out, at);
+    stretch.to - stretch.from
 }

@@ -1,23 +1,20 @@
 // The orders of a delete, in lent room.
-use crate::leaving::leaving;
+use crate::leaving::count_leaving;
+use crate::leaving::push_leaving;
 use order::Groups;
 use order::Radios;
 use order::keys::group_at;
 use order::keys::group_count;
-use rows::MAX_PAIRS;
 use rows::ORDER_WORDS;
 use rows::PAIR_WORDS;
-use sending::DEASSIGN;
-use sending::push_orders;
 ghost use Prim.Native.Nat.{_≤_};
 ghost use lib.ListN.{length};
 ghost use mathlib.Core.Path.{_≡_};
-ghost use Rattle.rules.specs.Refusals.{maxPairs};
 ghost use Rattle.order.specs.Keys.{groupKeys, radioKeys};
 ghost use Rattle.store.specs.Lists.{Fills};
 ghost use Rattle.store.specs.Storage.{pairsOf};
 ghost use Rattle.replies.specs.Sending.{orderRow};
-ghost use Rattle.deleting.specs.Leaving.{leavingOrders};
+ghost use Rattle.deleting.specs.Leaving.{leavingOrders, Stretches};
 
 // How many orders a delete sends.
 pub fn count_orders(
@@ -28,23 +25,14 @@ pub fn count_orders(
     listed: bool,
     radios: Radios,
 ) -> usize
-    requires { ⌜ (count ≤ length (now pairs)) × (count ≤ maxPairs) ⌝ }
+    requires { ⌜ Stretches count (now pairs) ⌝ }
     ensures { λ r. ⌜ r ≡ length (leavingOrders deassign listed (radioKeys radios) (pairsOf count (now (pairs .entry))) (groupKeys named)) ⌝ }
 {
-    let mut room = [0u64; MAX_PAIRS];
     let end = group_count(named);
     let mut total: usize = 0;
     let mut i: usize = 0;
     while i < end {
-        total += leaving(
-            pairs,
-            count,
-            group_at(named, i),
-            deassign,
-            listed,
-            radios,
-            &mut room,
-        );
+        total += count_leaving(pairs, count, group_at(named, i), deassign, listed, radios);
         i += 1;
     }
     total
@@ -60,20 +48,17 @@ pub fn send_orders(
     radios: Radios,
     out: &mut [[u64; ORDER_WORDS]],
 ) -> usize
-    requires { ⌜ (count ≤ length (now pairs)) × (count ≤ maxPairs)
+    requires { ⌜ Stretches count (now pairs)
         × (length (leavingOrders deassign listed (radioKeys radios) (pairsOf count (now pairs)) (groupKeys named)) ≤ length (now out)) ⌝ }
     ensures { λ r. ⌜ Fills orderRow (leavingOrders deassign listed (radioKeys radios) (pairsOf count (now (pairs .entry))) (groupKeys named))
         (now (out .entry)) (now (out .exit)) r ⌝ }
 {
-    let mut room = [0u64; MAX_PAIRS];
     let end = group_count(named);
     let mut at: usize = 0;
     let mut i: usize = 0;
     while i < end {
         let group = group_at(named, i);
-        let n = leaving(pairs, count, group, deassign, listed, radios, &mut room);
-        push_orders(out, at, DEASSIGN, group, &room[..n]);
-        at += n;
+        at += push_leaving(pairs, count, group, deassign, listed, radios, out, at);
         i += 1;
     }
     at

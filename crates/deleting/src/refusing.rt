@@ -18,18 +18,20 @@ use rows::PAIR_WORDS;
 use store::Standing;
 use store::form::written;
 use store::named::any_group;
-ghost use Prim.Native.Nat.{_≤_};
-ghost use lib.ListN.{length};
+ghost use lib.Dec.{ltb};
 ghost use mathlib.Core.Bool.{true};
 ghost use mathlib.Core.Path.{_≡_};
+ghost use Rattle.rules.specs.ByNumber.{lower};
+ghost use Rattle.rules.specs.Lists.{rises};
 ghost use Rattle.rules.specs.Number.{numbersIn};
-ghost use Rattle.rules.specs.Refusals.{maxPairs, first};
+ghost use Rattle.rules.specs.Refusals.{first};
 ghost use Rattle.order.specs.Keys.{groupsAs, radiosAs, groupKeys, radioKeys};
 ghost use Rattle.order.specs.Lists.{listOf};
 ghost use Rattle.order.specs.Steps.{deleteStep};
 ghost use Rattle.store.specs.Storage.{contents, pairsOf, groupsOf};
 ghost use Rattle.replies.specs.Orders.{replyOf, Judges};
 ghost use Rattle.deleting.specs.Deletes.{formTests, standTests};
+ghost use Rattle.deleting.specs.Leaving.{Stretches};
 
 // What a delete is refused with for its form.
 fn form_fault(asker: Itsi, named: Listed, deassign: bool, radios: Listed) -> Reply
@@ -60,7 +62,7 @@ fn stand_fault(
     radios: Radios,
     room: usize,
 ) -> Reply
-    requires { ⌜ («pair_count» ≤ length (now pairs)) × («pair_count» ≤ maxPairs) ⌝ }
+    requires { ⌜ (rises (lower ltb) (groupsOf «group_count» (now groups)) ≡ true) × Stretches «pair_count» (now pairs) ⌝ }
     ensures { λ r. ⌜ r ≡ replyOf (first (standTests (groupsOf «group_count» (now (groups .entry))) (pairsOf «pair_count» (now (pairs .entry)))
         (asker .0) (groupKeys named) remove deassign listed (radioKeys radios) room)) ⌝ }
 {

@@ -15,10 +15,10 @@ use Rattle.rules.specs.Recorded.{defineOf}
 use Rattle.rules.specs.Ledger.{list}
 use Rattle.rules.specs.History.{History, _then_, refusalIn, sentIn, listIn}
 use Rattle.rules.specs.Run.{run}
-use Rattle.rules.proofs.Arrival.{by-arrival}
+use Rattle.rules.proofs.ByNumber.{by-number}
 use Rattle.rules.proofs.Agree.{list-agree}
 use Rattle.rules.proofs.Anew as rules
-use Rattle.store.specs.Lists.{onto}
+use Rattle.order.specs.Walks.{onto}
 use Rattle.store.specs.Storage.{Rows, Contents, placing}
 use Rattle.order.specs.Lists.{numbersOf, listOf}
 use Rattle.replies.specs.Sending.{sentReply}
@@ -77,8 +77,8 @@ again-empty {h = h} k {asker} {named} {deassign} {radios} {space} {n = n} a {mak
     let taken = sent-none (refusalIn h s) n (length (sentIn h s)) (demand k .deletes a .0) in
     let taken′ = sent-none (refusalIn (h then s) s′) n′ (length (sentIn (h then s) s′)) (demand k₁ .defines b .0) in
     let l : listIn (h then s then s′) (maker .0) (group .0) (length room) ≡ record { refused = none; entries = [] } =
-    sym (list-agree placing by-arrival (h then s then s′) (maker .0) (group .0) (length room))
+    sym (list-agree placing by-number (h then s then s′) (maker .0) (group .0) (length room))
     ∙ ap (λ (x : ℕ). list (run placing (h then s then s′)) x (group .0) (length room)) (sym (defined-by (maker .0) (values .place)))
-    ∙ rules.again-empty placing by-arrival h d o (group .0) (length space) (length space′) (length room) taken refl gone taken′ made none-listed in
+    ∙ rules.again-empty placing by-number h d o (group .0) (length space) (length space′) (length room) taken refl gone taken′ made none-listed in
     let f = demand (defined k₁ b) .lists e in
     (f .0 ∙ ap membersOf l, f .1 ∙ (λ i. onto (map entryRow (l i .entries)) room))

@@ -19,7 +19,7 @@ use Rattle.rules.specs.Refusals.{maxGroups, maxPairs}
 use Rattle.rows.specs.Layout.{headWords, groupWords, pairWords, orderWords}
 use Rattle.rules.specs.History.{_then_}
 use Rattle.order.specs.Steps.{answerStep, defineStep, deleteStep}
-use Rattle.store.specs.Lists.{onto}
+use Rattle.order.specs.Walks.{onto}
 use Rattle.store.specs.Storage.{Rows, Contents, contents, pairRow, pairsOf, pairCount, placing, ledgerOf, laid}
 use Rattle.store.specs.Form.{roomy, Sound}
 use Rattle.replies.specs.Orders.{replyOf, verdict, contentsAfter}

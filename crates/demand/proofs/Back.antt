@@ -4,48 +4,48 @@ use mathlib.Core.Bool.{true, false, not, _&&_, _||_}
 use mathlib.Core.List.{List, [], _∷_, _++_, map}
 use Prim.Native.Nat.{ℕ, zero, suc, _+_, _-_, _≤_}
 use native.Mathlib.Omega.{arith}
-use lib.Dec.{eqb, ltb, leb}
+use lib.Dec.{ltb, leb}
 use lib.ListN.{length, getD, take, drop, replicate, length-append, length-map, length-replicate}
 use lib.Seq.{take-at, getD-at, drop-append-add}
 use borrow.Author.Tests.{leb-true, le-leb, not-true}
-use Rattle.rules.specs.Lists.{all, unique}
+use Rattle.rules.specs.Lists.{all, rises}
 use Rattle.rules.specs.Number.{wideKey}
 use Rattle.rules.specs.Parameters.{Parameters, badName, badParameters}
 use Rattle.rules.specs.Refusals.{maxGroups, maxPairs}
 use Rattle.rules.specs.Mark.{Mark}
-use Rattle.rules.specs.Ledger.{Group, Pair, samePair, Ledger}
-use Rattle.rules.specs.Entries.{distinct}
+use Rattle.rules.specs.Ledger.{Group, Pair, Ledger}
 use Rattle.rules.specs.Written.{maxOwners, goodOwners, goodGroup, goodPair, written}
 use Rattle.rules.proofs.Tests.{and-in, and-l, and-r, or-l, or-r}
 use Rattle.rules.proofs.Ranges.{in-range}
 use Rattle.rules.proofs.Written.{written-form}
-use Rattle.store.specs.Lists.{onto, Plain}
+use Rattle.order.specs.Walks.{onto}
+use Rattle.store.specs.Lists.{Plain}
 use Rattle.store.specs.Storage.{Contents, pairOf, pairRow, groupOf, groupRow, owners, counted, groupCount, placing, ledgerOf, laid}
 use Rattle.order.specs.Row.{lettersOf}
 use Rattle.store.specs.Form.{blank, tidy, roomy, within, isWritten, Sound}
-use Rattle.store.proofs.Rows.{onto-length}
+use Rattle.order.proofs.Walks.{onto-length}
 use Rattle.store.proofs.FormLaws.{room-of, sound}
 use Rattle.store.proofs.Groups.{name-few, group-back}
 
 -- ---- a group in the law's form ----
 
-module _ (e : ℕ × Group) (good : goodGroup e ≡ true) where
+module _ (e : ℕ × Group) (good : goodGroup placing e ≡ true) where
   abbrev os : List ℕ
   os = e .1 .owners
 
   abbrev p : Parameters
   p = e .1 .parameters
 
-  own : goodOwners os && not (badParameters p) ≡ true
-  own = and-r (not (wideKey (e .0))) (goodOwners os && not (badParameters p)) good
+  own : goodOwners placing os && not (badParameters p) ≡ true
+  own = and-r (not (wideKey (e .0))) (goodOwners placing os && not (badParameters p)) good
 
   name-fine : badName (p .name) ≡ false
-  name-fine = in-range p (not-true (badParameters p) (and-r (goodOwners os) (not (badParameters p)) own)) .name
+  name-fine = in-range p (not-true (badParameters p) (and-r (goodOwners placing os) (not (badParameters p)) own)) .name
 
   owners-few : length os ≤ 11
   owners-few =
-      let rest = unique os && all (λ a. not (wideKey a)) os in
-      let k = and-r (ltb 0 (length os)) (leb (length os) maxOwners && rest) (and-l (goodOwners os) (not (badParameters p)) own) in
+      let rest = rises ltb os && all (λ a. not (wideKey a)) os in
+      let k = and-r (ltb 0 (length os)) (leb (length os) maxOwners && rest) (and-l (goodOwners placing os) (not (badParameters p)) own) in
       leb-true (length os) 11 (and-l (leb (length os) maxOwners) rest k)
 
   good-back : groupOf (groupRow e) ≡ e
@@ -80,24 +80,26 @@ pairs-back : (l : List (Pair × Mark)) → map pairOf (map pairRow l) ≡ l
 pairs-back [] = refl
 pairs-back (e ∷ l) = ap (λ (z : List (Pair × Mark)). e ∷ z) (pairs-back l)
 
-groups-back : (l : List (ℕ × Group)) → all goodGroup l ≡ true → map groupOf (map groupRow l) ≡ l
+groups-back : (l : List (ℕ × Group)) → all (goodGroup placing) l ≡ true → map groupOf (map groupRow l) ≡ l
 groups-back [] h = refl
-groups-back (e ∷ l) h = λ i. good-back e (and-l (goodGroup e) (all goodGroup l) h) i ∷ groups-back l (and-r (goodGroup e) (all goodGroup l) h) i
+groups-back (e ∷ l) h = λ i. good-back e (and-l (goodGroup placing e) (all (goodGroup placing) l) h) i ∷ groups-back l (and-r (goodGroup placing e) (all (goodGroup placing) l) h) i
 
-groups-tidy : (l : List (ℕ × Group)) → all goodGroup l ≡ true → all tidy (map groupRow l) ≡ true
+groups-tidy : (l : List (ℕ × Group)) → all (goodGroup placing) l ≡ true → all tidy (map groupRow l) ≡ true
 groups-tidy [] h = refl
-groups-tidy (e ∷ l) h = and-in (good-tidy e (and-l (goodGroup e) (all goodGroup l) h)) (groups-tidy l (and-r (goodGroup e) (all goodGroup l) h))
+groups-tidy (e ∷ l) h = and-in (good-tidy e (and-l (goodGroup placing e) (all (goodGroup placing) l) h)) (groups-tidy l (and-r (goodGroup placing e) (all (goodGroup placing) l) h))
 
 -- ---- the ledger, laid ----
 
-groups-good : (l : Ledger) → written placing l ≡ true → all goodGroup (l .groups) ≡ true
+groups-good : (l : Ledger) → written placing l ≡ true → all (goodGroup placing) (l .groups) ≡ true
 groups-good l h =
-    let good = all goodGroup (l .groups) && all (goodPair l) (l .pairs) in
-    let once = distinct eqb (l .groups) && (distinct samePair (l .pairs) && good) in
+    let good = all (goodGroup placing) (l .groups) && all (goodPair l) (l .pairs) in
+    let groupsStand = placing .groups .form (l .groups) in
+    let pairsStand = placing .pairs .form (l .pairs) in
+    let once = groupsStand && (pairsStand && good) in
     let h₁ = and-r (leb (length (l .groups)) maxGroups) (leb (length (l .pairs)) maxPairs && once) h in
     let h₂ = and-r (leb (length (l .pairs)) maxPairs) once h₁ in
-    let h₃ = and-r (distinct eqb (l .groups)) (distinct samePair (l .pairs) && good) h₂ in
-    and-l (all goodGroup (l .groups)) (all (goodPair l) (l .pairs)) (and-r (distinct samePair (l .pairs)) good h₃)
+    let h₃ = and-r groupsStand (pairsStand && good) h₂ in
+    and-l (all (goodGroup placing) (l .groups)) (all (goodPair l) (l .pairs)) (and-r pairsStand good h₃)
 
 -- rows from which everything is read back
 rows-plain : {X : Type 0} (itemOf : List ℕ → X) (rowOf : X → List ℕ) (l : List X) (rest : List (List ℕ)) → map itemOf (map rowOf l) ≡ l

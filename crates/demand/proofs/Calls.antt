@@ -7,7 +7,7 @@ use lib.ListN.{length}
 use Rattle.layout.specs.declared.Record.{Record}
 use Rattle.rules.specs.Order.{Step, tick}
 use Rattle.order.specs.Steps.{answerStep, defineStep, deleteStep}
-use Rattle.store.specs.Lists.{onto}
+use Rattle.order.specs.Walks.{onto}
 use Rattle.store.specs.Storage.{Rows, Contents}
 use Rattle.replies.specs.Orders.{replyOf, verdict, contentsAfter, emptyVerdict, emptied, Begins, Replies}
 use Rattle.replies.specs.Sending.{orderRow, sentOn, sentReply, Sends}

@@ -16,10 +16,10 @@ use Rattle.rules.specs.Ledger.{Ledger, list, show}
 use Rattle.rules.specs.Steps.{refused, sent}
 use Rattle.rules.specs.History.{History, owner, radiosIn, refusalIn, sentIn}
 use Rattle.rules.specs.Run.{run}
-use Rattle.rules.proofs.Arrival.{by-arrival}
+use Rattle.rules.proofs.ByNumber.{by-number}
 use Rattle.rules.proofs.Agree.{refusal-agree, sent-agree, list-agree, show-agree}
 use Rattle.rules.proofs.Demand.{list-exact, show-exact}
-use Rattle.store.specs.Lists.{onto}
+use Rattle.order.specs.Walks.{onto}
 use Rattle.store.specs.Storage.{Rows, Contents, placing}
 use Rattle.replies.specs.Orders.{replyOf, verdict, Replies}
 use Rattle.replies.specs.Sending.{orderRow, sentOn, sentReply, Sends}
@@ -45,11 +45,11 @@ once-sent false l = refl
 module _ {c : Contents} {h : History} (k : Stands c h) where
   -- the refusal is the history's, and never 18
   pub judged-alike : (s : Step) → verdict c s ≡ refusalIn h s
-  judged-alike s = (λ i. cond (k .sound .form i) (refused placing (k .says i) s) (some NotWritten)) ∙ refusal-agree placing by-arrival h s
+  judged-alike s = (λ i. cond (k .sound .form i) (refused placing (k .says i) s) (some NotWritten)) ∙ refusal-agree placing by-number h s
 
   pub sent-alike : (s : Step) → sentOn c s ≡ sentIn h s
   sent-alike s =
-      (λ i. cond (accepted (judged-alike s i)) ((ap (λ (l : Ledger). sent placing l s) (k .says) ∙ sent-agree placing by-arrival h s) i) [])
+      (λ i. cond (accepted (judged-alike s i)) ((ap (λ (l : Ledger). sent placing l s) (k .says) ∙ sent-agree placing by-number h s) i) [])
       ∙ once-sent (accepted (refusalIn h s)) _
 
   pub listed-alike : (asker : Itsi) (group : Gtsi) (room : ℕ) → listOn c asker group room ≡ list (run placing h) (asker .0) (group .0) room
@@ -84,7 +84,7 @@ module _ {c : Contents} {h : History} (k : Stands c h) where
         → ListsExactly h (group .0) room listed reply
     lists-exactly {room} e o n =
         let l = list (run placing h) (asker .0) (group .0) (length room) in
-        let x = list-exact placing by-arrival h (asker .0) (group .0) (length room) o n in
+        let x = list-exact placing by-number h (asker .0) (group .0) (length room) o n in
         let s = lists-alike e in
         record { entries = l .entries; counts = s .0 ∙ ap (λ (r : Option Refusal). membersReply r (length (l .entries))) (x .0); rows = s .1; exact = x .1 }
 
@@ -94,7 +94,7 @@ module _ {c : Contents} {h : History} (k : Stands c h) where
     shows-exactly : {reply : Shown} → Shows asker group c reply → owner h (group .0) (asker .0) ≡ true → ShowsExactly h (group .0) reply
     shows-exactly e o =
         let s = show (run placing h) (asker .0) (group .0) in
-        let x = show-exact placing by-arrival h (asker .0) (group .0) o in
+        let x = show-exact placing by-number h (asker .0) (group .0) o in
         record {
           owners = s .owners;
           parameters = s .parameters;
@@ -115,9 +115,9 @@ demand {c} {h} run =
       answers = λ e. replies-alike k (answer-says e);
       ticks = λ e. replies-alike k (tick-says e);
       lists = λ {asker} {group} {room} e. let s = lists-alike k e in
-          let l = list-agree placing by-arrival h (asker .0) (group .0) (length room) in
+          let l = list-agree placing by-number h (asker .0) (group .0) (length room) in
           (s .0 ∙ ap membersOf l, s .1 ∙ (λ i. onto (map entryRow (l i .entries)) room));
-      shows = λ {asker} {group} e. shows-alike k e ∙ ap shownOf (show-agree placing by-arrival h (asker .0) (group .0));
+      shows = λ {asker} {group} e. shows-alike k e ∙ ap shownOf (show-agree placing by-number h (asker .0) (group .0));
       owner-lists = λ e. lists-exactly k e;
       owner-shows = λ e. shows-exactly k e;
     }

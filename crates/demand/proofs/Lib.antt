@@ -6,3 +6,4 @@ pub mod Demand
 pub mod Never18
 pub mod Anew
 pub mod Asked
+pub mod Before

@@ -14,7 +14,7 @@ use Rattle.rules.specs.Effect.{effect}
 use Rattle.rules.specs.History.{History, start, _then_}
 use Rattle.rules.specs.Run.{run}
 use Rattle.rules.specs.Written.{written}
-use Rattle.rules.proofs.Arrival.{by-arrival}
+use Rattle.rules.proofs.ByNumber.{by-number}
 use Rattle.rules.proofs.Written.{step-written, empty-written}
 use Rattle.store.specs.Storage.{Rows, Contents, placing, ledgerOf, laid}
 use Rattle.store.specs.Form.{roomy, Sound}
@@ -51,14 +51,14 @@ step-holds c l s k =
     subst (λ (x : Ledger). Holds (contentsAfter c s) (step placing x s)) (k .says)
     (subst (λ (x : Contents). Holds x (step placing (ledgerOf c) s)) judges
     (taken-holds (accepted (refused placing (ledgerOf c) s)) (ledgerOf c) (apply placing (ledgerOf c) (effect (view (ledgerOf c)) s)) c
-    (step-written placing by-arrival (ledgerOf c) s (p .1)) (p .0) (record { sound = k .sound; says = refl })))
+    (step-written placing by-number (ledgerOf c) s (p .1)) (p .0) (record { sound = k .sound; says = refl })))
 
 -- `empty` over contents with room
 empty-holds : (c : Contents) → Done ≡ replyOf (emptyVerdict c) → Holds (emptied c) empty
 empty-holds c d = go (roomy c) refl d
   where
     go : (b : Bool) → roomy c ≡ b → Done ≡ replyOf (cond b none (some NotWritten)) → Holds (cond b (laid empty c) c) empty
-    go true r d = laid-holds empty c (empty-written placing by-arrival) r
+    go true r d = laid-holds empty c (empty-written placing by-number) r
     go false r d = let z : _≡_ {A = ℕ} 0 1 = cc in absurd (omega arith)
 
 -- ---- the run ----

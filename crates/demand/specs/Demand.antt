@@ -13,7 +13,7 @@ use Rattle.rules.specs.History.{History, owner, radiosIn, refusalIn, sentIn, li
 use Rattle.rules.specs.Run.{run}
 use Rattle.rules.specs.Demand.{Exactly, Tells}
 use Rattle.order.specs.Steps.{answerStep, defineStep, deleteStep}
-use Rattle.store.specs.Lists.{onto}
+use Rattle.order.specs.Walks.{onto}
 use Rattle.store.specs.Storage.{Rows, Contents, placing, ledgerOf}
 use Rattle.store.specs.Form.{isWritten}
 use Rattle.replies.specs.Orders.{replyOf}

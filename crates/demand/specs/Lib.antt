@@ -3,3 +3,4 @@ pub mod Calls
 pub mod Runs
 pub mod Demand
 pub mod Asked
+pub mod Before

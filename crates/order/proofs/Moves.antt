@@ -1,11 +1,11 @@
 -- Laws of elements moved up, from the last: none moved, a turn, the length, and one stored where the first of them stood.
-use mathlib.Core.Path.{_≡_, _∙_}
+use mathlib.Core.Path.{_≡_, sym, _∙_}
 use mathlib.Core.List.{List, [], _∷_, _++_, append-assoc}
 use Prim.Native.Nat.{ℕ, _+_, _≤_, _<_}
 use native.Mathlib.Numerals.{add-one}
 use native.Mathlib.Omega.{arith}
 use lib.ListN.{length, getD, take, drop, set, take-append-drop, length-append, length-take, length-drop, List·getD-append}
-use lib.Seq.{take-suc, getD-take, length-take-le, set-at}
+use lib.Seq.{take-suc, getD-take, length-take-le, set-at, drop-append-le}
 use Rattle.order.specs.Walks.{left, moved}
 use Rattle.order.proofs.Walks.{left-cons, left-end}
 
@@ -32,6 +32,15 @@ module _ {A : Type 0} where
       List·getD-append (take (i + by + 1) l) r d i h ∙ getD-take (i + by + 1) l i d (omega arith) in
       rw (m, e, left-cons l n i d p (omega arith)) (set-last l r (i + by) (getD l i d) (omega arith))
 
-  -- the elements from i on have made room for one
-  pub moved-set : (n i : ℕ) (l : List A) (x : A) → i < length l → set (moved 1 i n l) i x ≡ take i l ++ (x ∷ (left i n l ++ drop (n + 1) l))
-  moved-set n i l x h = set-last l (left i n l ++ drop (n + 1) l) i x h
+  -- the elements from i on have made room: one is stored before them
+  pub moved-set : (by n i m : ℕ) (l : List A) (x : A) → i + by ≡ m + 1 → m < length l
+      → set (moved by i n l) m x ≡ take m l ++ (x ∷ (left i n l ++ drop (n + by) l))
+  moved-set by n i m l x e h = rw e (set-last l (left i n l ++ drop (n + by) l) m x h)
+
+  -- moved by no place
+  pub moved-zero : (n i : ℕ) (l : List A) → i ≤ n → n ≤ length l → moved 0 i n l ≡ l
+  moved-zero n i l p q =
+      let a : i + 0 ≡ i = omega arith in
+      let b : n + 0 ≡ n = omega arith in
+      let e = sym (drop-append-le i (take n l) (drop n l) (rw (length-take-le n l q) p)) in
+      rw (a, b, e, take-append-drop n l) (take-append-drop i l)

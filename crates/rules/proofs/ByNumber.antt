@@ -38,10 +38,10 @@ module _ {P : Type 0} (a b : Pair) where
       (λ q. level (eqb-true (a .0) (b .0) q) (cc))
       (λ q. clash (cc)))
 
-pair-low : (a b : Pair) → ltb (a .0) (b .0) ≡ true → belowPair a b ≡ true
+pub pair-low : (a b : Pair) → ltb (a .0) (b .0) ≡ true → belowPair a b ≡ true
 pair-low a b h = cc
 
-pair-level : (a b : Pair) → a .0 ≡ b .0 → ltb (a .1) (b .1) ≡ true → belowPair a b ≡ true
+pub pair-level : (a b : Pair) → a .0 ≡ b .0 → ltb (a .1) (b .1) ≡ true → belowPair a b ≡ true
 pair-level a b q h = cc (not-below (a .0), eqb-same (a .0))
 
 pair-carries : (a b c : Pair) → belowPair a b ≡ true → belowPair b c ≡ true → belowPair a c ≡ true

@@ -145,11 +145,23 @@ module _ {A B : Type 0} (h : A → B) (f : B → ℕ) where
 pub rising-new : (x : ℕ) (l : List ℕ) → mem x l ≡ false → rising (x ∷ l) ≡ insertBy (λ n. n) x (rising l)
 rising-new x l e = ap (λ (k : List ℕ). insertBy (λ n. n) x (inOrder (λ n. n) k)) (keep-other x (once l) (mem-once x l ∙ e))
 
-pub rising-rising : (l : List ℕ) → Rising (rising l)
-rising-rising l = subst Rising (map-id (rising l)) (rising-order (λ n. n) (once l) (subst Once (sym (map-id (once l))) (once-once l)))
+-- numbers put in order are the same numbers
+pub mem-sorted : (z : ℕ) (l : List ℕ) → mem z (inOrder (λ n. n) l) ≡ mem z l
+mem-sorted z l = ap (mem z) (sym (map-id (inOrder (λ n. n) l))) ∙ mem-order (λ n. n) z l ∙ ap (mem z) (map-id l)
 
 pub mem-rising : (z : ℕ) (l : List ℕ) → mem z (rising l) ≡ mem z l
-mem-rising z l = ap (mem z) (sym (map-id (rising l))) ∙ mem-order (λ n. n) z (once l) ∙ ap (mem z) (map-id (once l)) ∙ mem-once z l
+mem-rising z l = mem-sorted z (once l) ∙ mem-once z l
+
+-- and where none stands twice they rise
+pub rising-sorted : (l : List ℕ) → Once l → Rising (inOrder (λ n. n) l)
+rising-sorted l o = subst Rising (map-id (inOrder (λ n. n) l)) (rising-order (λ n. n) l (subst Once (sym (map-id l)) o))
+
+pub rising-rising : (l : List ℕ) → Rising (rising l)
+rising-rising l = rising-sorted (once l) (once-once l)
+
+-- each once, rising, is that of each once
+pub rising-once : (l : List ℕ) → rising (once l) ≡ rising l
+rising-once l = ap (inOrder (λ n. n)) (once-same (once l) (once-once l))
 
 above-mem : (x : ℕ) (l : List ℕ) → Above x l → mem x l ≡ false
 above-mem x [] a = refl

@@ -1,78 +1,106 @@
+-- `defining::carry_out` meets its contract.
+use mathlib.Core.Path.{_≡_, refl, ap, _∙_}
+use lib.ListN.{length}
+use native.Mathlib.Omega.{arith}
+use Rattle.rules.specs.Lists.{inOrder}
+use Rattle.order.specs.Keys.{groupKeys, radioKeys}
+use Rattle.order.proofs.KeyLaws.{few-groups, group-keys, radio-keys}
+use Rattle.store.specs.Storage.{Contents, contents}
+use Rattle.store.proofs.FormLaws.{groups-rise, pairs-rise}
+use Rattle.defining.proofs.Carried.{sorted-rises, groups-taken, pairs-taken, carried-laid}
 use borrow.Author.Needs.{needs}
 use Rattle.defining.proofs.carrying.carry_out.Statement.{statement}
 use Rattle.defining.proofs.carrying.carry_out.Tie as tie
-use Rattle.defining.proofs.carrying.carry_out.Reads as reads
-use Rattle.defining.proofs.carrying.carry_out.Lts as lts
-use Rattle.defining.proofs.grouping.make_groups.Reads as make-groups-reads
-use Rattle.defining.proofs.pairing.set_all.Reads as set-all-reads
-use Rattle.defining.proofs.refusing.new_groups.Reads as new-groups-reads
-use Rattle.defining.proofs.refusing.new_pairs.Reads as new-pairs-reads
-use Rattle.order.proofs.keys.groups_rising.Reads as groups-rising-reads
-use Rattle.order.proofs.keys.radios_rising.Reads as radios-rising-reads
 
--- src/carrying.rt:35:23
+-- the contents that it finds
+abbrev found : tie.Start → Contents
+found s = contents (s .args .head .now) (s .args .groups .now) (s .args .pairs .now)
+
+-- the groups, rising, and the radios
+these : (c : tie.After-groups-rising) → groupKeys (c .groups-rising .result) ≡ inOrder (λ k. k) (groupKeys (c .before .before .before .before .before .before .before .before .args .named))
+these c = ap groupKeys (c .groups-rising .ensures) ∙ group-keys (inOrder (λ k. k) (groupKeys (c .before .before .before .before .before .before .before .before .args .named)))
+
+those : (c : tie.After-radios-rising) → radioKeys (c .radios-rising .result) ≡ inOrder (λ k. k) (radioKeys (c .before .before .before .before .before .before .before .before .before .before .before .before .before .args .radios))
+those c = ap radioKeys (c .radios-rising .ensures) ∙ radio-keys (inOrder (λ k. k) (radioKeys (c .before .before .before .before .before .before .before .before .before .before .before .before .before .args .radios)))
+
 slice-read-group-count : tie.Need-slice-read-group-count
-slice-read-group-count c = ?h1
+slice-read-group-count c = search needs
 
--- src/carrying.rt:36:22
 slice-read-pair-count : tie.Need-slice-read-pair-count
-slice-read-pair-count c = ?h2
+slice-read-pair-count c = search needs
 
--- src/carrying.rt:37:9
 new-groups-requires : tie.Need-new-groups-requires
-new-groups-requires c κs = ?h3
+new-groups-requires c κs =
+    let s = c .before .before .before .before in
+    let w = s .pre .sound in
+    (omega (arith, w .groups, w .fewGroups), groups-rise (found s) w)
 
--- src/carrying.rt:38:9
 new-pairs-requires : tie.Need-new-pairs-requires
-new-pairs-requires c κs = ?h4
+new-pairs-requires c κs =
+    let s = c .before .before .before .before .before .before in
+    let w = s .pre .sound in
+    (omega (arith, w .pairs, w .fewPairs), pairs-rise (found s) w)
 
--- src/carrying.rt:39:9
 groups-rising-requires : tie.Need-groups-rising-requires
-groups-rising-requires c κs = ?h5
+groups-rising-requires c κs = search needs
 
--- src/carrying.rt:40:5
 make-groups-requires : tie.Need-make-groups-requires
-make-groups-requires c κs = ?h6
+make-groups-requires c κs =
+    let s = c .before .before .before .before .before .before .before .before .before in
+    let a = s .args in
+    let r = inOrder (λ k. k) (radioKeys (a .radios)) in (
+      groups-taken (found s) (a .keeps) (a .order) (groupKeys (a .named)) (radioKeys (a .radios)) (a .state) (s .pre) _ r (these (c .before)) refl _ _
+          (c .before .before .before .before .new-groups .ensures .0) (c .before .before .new-pairs .ensures .0),
+      s .pre .fine,
+      s .pre .row,
+      rw (these (c .before)) (sorted-rises (groupKeys (a .named)) (s .pre .groupsOnce)),
+    )
 
--- src/carrying.rt:46:9
 radios-rising-requires : tie.Need-radios-rising-requires
-radios-rising-requires c κs = ?h7
+radios-rising-requires c κs = search needs
 
--- src/carrying.rt:41:5
 set-all-requires : tie.Need-set-all-requires
-set-all-requires c κs = ?h8
+set-all-requires c κs =
+    let s = c .before .before .before .before .before .before .before .before .before .before .before .before .before in
+    let a = s .args in (
+      pairs-taken (found s) (a .keeps) (a .order) (groupKeys (a .named)) (radioKeys (a .radios)) (a .state) (s .pre) _ _ (these (c .before .before .before .before .before))
+          (those (c)) _ _ (c .before .before .before .before .before .before .before .before .new-groups .ensures .0) (c .before .before .before .before .before .before .new-pairs .ensures .0),
+      rw (these (c .before .before .before .before .before)) (sorted-rises (groupKeys (a .named)) (s .pre .groupsOnce)),
+      rw (those (c)) (sorted-rises (radioKeys (a .radios)) (s .pre .radiosOnce)),
+    )
 
--- src/carrying.rt:49:26
 add-head : tie.Need-add-head
-add-head c = ?h9
+add-head c =
+    let s = c .before .before .before .before .before .before .before .before .before .before .before .before .before .before .before in
+    let a = s .args in
+    let n : length (a .named .key) ≡ 10 = search needs in
+    omega (arith, s .pre .sound .fewGroups, c .before .before .before .before .before .before .before .before .before .before .new-groups .ensures .1, few-groups (a .named) n)
 
--- src/carrying.rt:49:5
 slice-write-head : tie.Need-slice-write-head
-slice-write-head c = ?h10
+slice-write-head c = search needs
 
--- src/carrying.rt:50:25
 add-head-2 : tie.Need-add-head-2
-add-head-2 c = ?h11
+add-head-2 c = search needs
 
--- src/carrying.rt:50:5
 slice-write-head-2 : tie.Need-slice-write-head-2
-slice-write-head-2 c = ?h12
+slice-write-head-2 c = search needs
 
--- src/carrying.rt:20:1
 same-length : tie.Need-same-length
-same-length c = ?h13
+same-length c = search needs
 
--- src/carrying.rt:20:1
 same-length-2 : tie.Need-same-length-2
-same-length-2 c = ?h14
+same-length-2 c = search needs
 
--- src/carrying.rt:20:1
 same-length-3 : tie.Need-same-length-3
-same-length-3 c = ?h15
+same-length-3 c = search needs
 
--- src/carrying.rt:20:1
 returns : tie.Need-returns
-returns c = ?h16
+returns c =
+    let s = c .before .before .before .before .before .before .before .before .before .before .before .before .before .before .before in
+    let a = s .args in
+    carried-laid (found s) (a .keeps) (a .order) (groupKeys (a .named)) (radioKeys (a .radios)) (a .state) (s .pre) _ _ (these (c .before .before .before .before .before .before .before))
+    (those (c .before .before)) _ _ (c .before .before .before .before .before .before .before .before .before .before .new-groups .ensures .0) (c .before .before .before .before .before .before .before .before .new-pairs .ensures .0) _ _ (c .before .before .before .before .before .make-groups .ensures)
+    (c .before .set-all .ensures)
 
 pub carry-out-spec : {M : Type 1} → statement M
 carry-out-spec =

@@ -1,12 +1,10 @@
 -- `defining::make_group` meets its contract.
-use mathlib.Core.Path.{_≡_, refl, sym, ap, subst, _∙_}
-use Prim.Native.Nat.{ℕ, _+_, _-_, _≤_, _<_}
-use mathlib.Core.List.{List}
+use mathlib.Core.Path.{sym, ap, subst, _∙_}
+use Prim.Native.Nat.{_+_, _-_, _<_}
 use native.Mathlib.Omega.{arith}
-use lib.ListN.{length, set}
+use lib.ListN.{length}
 use Rattle.order.specs.Walks.{moved}
 use Rattle.order.proofs.Moves.{moved-length}
-use Rattle.store.specs.Storage.{Rows}
 use Rattle.store.specs.declared.Place.{Place}
 use Rattle.defining.specs.Groups.{rowFor}
 use Rattle.defining.specs.Putting.{Opens}
@@ -14,13 +12,6 @@ use Rattle.defining.proofs.Downward.{row-put}
 use borrow.Author.Needs.{needs}
 use Rattle.defining.proofs.grouping.make_group.Statement.{statement}
 use Rattle.defining.proofs.grouping.make_group.Tie as tie
-use Rattle.defining.proofs.grouping.make_group.Reads as reads
-use Rattle.defining.proofs.grouping.make_group.Lts as lts
-use Rattle.defining.proofs.grouping.move_groups.Reads as move-groups-reads
-use Rattle.defining.proofs.grouping.row_for.Reads as row-for-reads
-use Rattle.defining.proofs.putting.behind.Reads as behind-reads
-use Rattle.defining.proofs.putting.step_after.Reads as step-after-reads
-use Rattle.store.proofs.places.group_place.Reads as group-place-reads
 
 -- there is room at the place that was found
 opens : (c : tie.After-group-place) → let a = c .before .before .args in Opens (c .group-place .result) (a .step .left) (a .step .by) (a .groups .now)
@@ -30,35 +21,27 @@ opens c = let a = c .before .before .args in subst (λ (p : Place). Opens p (a .
 at : (c : tie.After-behind) → let a = c .before .before .before .before .before .args in c .behind .result + a .step .by - 1 < length (a .groups .now)
 at c = let w = opens (c .before .before .before) in omega (arith, w .inside, w .room, w .opens, c .behind .ensures)
 
--- src/grouping.rt:129:9
 group-place-requires : tie.Need-group-place-requires
 group-place-requires c κs = search needs
 
--- src/grouping.rt:130:9
 row-for-requires : tie.Need-row-for-requires
 row-for-requires c κs = let w = opens (c .before) in omega (arith, w .inside, w .room)
 
--- src/grouping.rt:131:9
 behind-requires : tie.Need-behind-requires
 behind-requires c κs = let w = opens (c .before .before) in omega (arith, w .inside, w .few)
 
--- src/grouping.rt:132:5
 move-groups-requires : tie.Need-move-groups-requires
 move-groups-requires c κs = let w = opens (c .before .before .before .before) in (rw (c .before .behind .ensures) (w .inside), w .room)
 
--- src/grouping.rt:133:14
 add-at : tie.Need-add-at
 add-at c = let w = opens (c .before .before .before .before .before .before) in omega (arith, w .inside, w .room, c .before .before .before .behind .ensures)
 
--- src/grouping.rt:133:14
 sub-at : tie.Need-sub-at
 sub-at c = let w = opens (c .before .before .before .before .before .before) in omega (arith, w .opens, c .before .before .before .behind .ensures)
 
--- src/grouping.rt:134:5
 mul-row : tie.Need-mul-row
 mul-row c = let w = opens (c .before .before .before .before .before .before) in omega (arith, w .inside, w .room, w .opens, c .before .before .before .behind .ensures)
 
--- src/grouping.rt:134:5
 slice-set-from-row : tie.Need-slice-set-from-row
 slice-set-from-row c =
     let w = opens (c .before .before .before .before .before .before) in
@@ -67,15 +50,12 @@ slice-set-from-row c =
     (rw (c .before .before .before .behind .ensures) (w .inside)) in
     omega (arith, at (c .before .before .before), n)
 
--- src/grouping.rt:135:5
 step-after-requires : tie.Need-step-after-requires
 step-after-requires c κs = let w = opens (c .before .before .before .before .before .before) in omega (arith, w .opens, c .before .before .before .behind .ensures)
 
--- src/grouping.rt:115:1
 same-length : tie.Need-same-length
 same-length c = search needs
 
--- src/grouping.rt:115:1
 returns : tie.Need-returns
 returns c =
     let a = c .before .before .before .before .before .before .before .before .before .args in

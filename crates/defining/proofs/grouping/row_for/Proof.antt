@@ -1,5 +1,4 @@
 -- `defining::row_for` meets its contract.
-use mathlib.Core.Path.{sym}
 use Prim.Native.Nat.{_<_}
 use native.Mathlib.Omega.{arith}
 use lib.ListN.{length}

@@ -4,26 +4,19 @@ use native.Mathlib.Omega.{arith}
 use borrow.Author.Needs.{needs}
 use Rattle.defining.proofs.putting.behind.Statement.{statement}
 use Rattle.defining.proofs.putting.behind.Tie as tie
-use Rattle.defining.proofs.putting.behind.Reads as reads
-use Rattle.defining.proofs.putting.behind.Lts as lts
 
--- src/putting.rt:25:19
 enum-known-place : tie.Need-enum-known-place
 enum-known-place c = search needs
 
--- src/putting.rt:25:25
 add-result : tie.Need-add-result
 add-result c = let p = rw (c .before .place .given .1) at (c .before .before .before .pre) in omega arith
 
--- src/putting.rt:26:21
 enum-known-place-2 : tie.Need-enum-known-place-2
 enum-known-place-2 c = search needs
 
--- src/putting.rt:20:1
 returns : tie.Need-returns
 returns c = rw (c .before .place .given .1) refl
 
--- src/putting.rt:20:1
 returns-2 : tie.Need-returns-2
 returns-2 c = search needs
 

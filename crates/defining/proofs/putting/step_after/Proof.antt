@@ -3,19 +3,13 @@ use mathlib.Core.Path.{refl}
 use borrow.Author.Needs.{needs}
 use Rattle.defining.proofs.putting.step_after.Statement.{statement}
 use Rattle.defining.proofs.putting.step_after.Tie as tie
-use Rattle.defining.proofs.putting.step_after.Reads as reads
-use Rattle.defining.proofs.putting.step_after.Lts as lts
-use Rattle.defining.proofs.putting.index.Reads as index-reads
 
--- src/putting.rt:35:9
 index-requires : tie.Need-index-requires
 index-requires c κs = search needs
 
--- src/putting.rt:38:13
 sub-t4 : tie.Need-sub-t4
 sub-t4 c = search needs
 
--- src/putting.rt:31:1
 returns : tie.Need-returns
 returns c = rw (c .index .ensures) refl
 

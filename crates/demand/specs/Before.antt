@@ -1,0 +1,57 @@
+-- Document 02, P10, over the contracts of the ledger's own functions: on the contents that any run has left, the groups and pairs that stand,
+-- and the answer of every call, are those of the layout by arrival after the same run.
+use mathlib.Core.Path.{_≡_}
+use mathlib.Core.Bool.{Bool}
+use mathlib.Core.List.{map}
+use Prim.Native.Nat.{ℕ}
+use lib.ListN.{length}
+use Rattle.layout.specs.declared.Record.{Record}
+use Rattle.rules.specs.Order.{tick}
+use Rattle.rules.specs.Ledger.{Ledger, view, list, show}
+use Rattle.rules.specs.Arrival.{byArrival}
+use Rattle.rules.specs.Steps.{refused, sent}
+use Rattle.rules.specs.History.{History}
+use Rattle.rules.specs.Run.{run}
+use Rattle.order.specs.Steps.{answerStep, defineStep, deleteStep}
+use Rattle.order.specs.Walks.{onto}
+use Rattle.order.specs.declared.Gtsi.{Gtsi}
+use Rattle.order.specs.declared.Itsi.{Itsi}
+use Rattle.order.specs.declared.Numbers.{Numbers}
+use Rattle.order.specs.declared.Listed.{Listed}
+use Rattle.store.specs.Storage.{Rows, Contents, ledgerOf}
+use Rattle.replies.specs.Orders.{replyOf}
+use Rattle.replies.specs.Sending.{orderRow, sentReply}
+use Rattle.replies.specs.Listing.{entryRow, membersOf}
+use Rattle.replies.specs.Showing.{shownOf}
+use Rattle.replies.specs.declared.Reply.{Reply}
+use Rattle.replies.specs.declared.Sent.{Sent}
+use Rattle.replies.specs.declared.Members.{Members}
+use Rattle.replies.specs.declared.Shown.{Shown}
+use Rattle.demand.specs.Calls.{Ticks, Answers, Defines, Deletes, Lists, Shows}
+
+-- the ledger in the old layout
+abbrev pub old : History → Ledger
+old h = run byArrival h
+
+pub record AsBefore (c : Contents) (h : History) : Type 0 where
+  -- the same groups, with their owners and parameters, the same pairs, with their marks, and as many of each
+  pub stand : view (ledgerOf c) ≡ view (old h)
+  pub groups : length (ledgerOf c .groups) ≡ length (old h .groups)
+  pub pairs : length (ledgerOf c .pairs) ≡ length (old h .pairs)
+  -- every reply, every refusal and every outgoing order
+  pub defines : {asker : Itsi} {values : Record} {room rows : Rows} {c′ : Contents} {reply : Sent}
+      → Defines asker values room rows c c′ reply
+      → let s = defineStep asker (values .place) (length room) in
+      (reply ≡ sentReply (refused byArrival (old h) s) (length (sent byArrival (old h) s))) × (rows ≡ onto (map orderRow (sent byArrival (old h) s)) room)
+  pub deletes : {asker : Itsi} {named : Numbers} {remove deassign : Bool} {radios : Listed} {room rows : Rows} {c′ : Contents} {reply : Sent}
+      → Deletes asker named remove deassign radios room rows c c′ reply
+      → let s = deleteStep asker named remove deassign radios (length room) in
+      (reply ≡ sentReply (refused byArrival (old h) s) (length (sent byArrival (old h) s))) × (rows ≡ onto (map orderRow (sent byArrival (old h) s)) room)
+  pub answers : {radio : Itsi} {group : Gtsi} {result : ℕ} {c′ : Contents} {reply : Reply}
+      → Answers radio group result c c′ reply → reply ≡ replyOf (refused byArrival (old h) (answerStep radio group result))
+  pub ticks : {c′ : Contents} {reply : Reply} → Ticks c c′ reply → reply ≡ replyOf (refused byArrival (old h) tick)
+  pub lists : {asker : Itsi} {group : Gtsi} {room listed : Rows} {reply : Members}
+      → Lists asker group room listed c reply
+      → let l = list (old h) (asker .0) (group .0) (length room) in
+      (reply ≡ membersOf l) × (listed ≡ onto (map entryRow (l .entries)) room)
+  pub shows : {asker : Itsi} {group : Gtsi} {reply : Shown} → Shows asker group c reply → reply ≡ shownOf (show (old h) (asker .0) (group .0))
