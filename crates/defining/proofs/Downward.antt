@@ -10,7 +10,6 @@ use lib.Seq.{take-suc, take-all, take-take, drop-at, take-append-le, length-take
 use Rattle.rules.specs.Lists.{rises}
 use Rattle.rules.specs.Entries.{find, entry}
 use Rattle.rules.specs.Placing.{puts}
-use Rattle.rules.specs.Refusals.{maxPairs}
 use Rattle.rules.specs.ByNumber.{put, lower, byKey}
 use Rattle.rules.proofs.Tests.{split}
 use Rattle.rules.proofs.Rises.{Over, Climbs, climbs-rises}
@@ -22,7 +21,7 @@ use Rattle.order.proofs.Moves.{moved-set}
 use Rattle.store.specs.Lists.{Plain}
 use Rattle.store.specs.Places.{placeOf}
 use Rattle.store.specs.declared.Place.{Place}
-use Rattle.defining.specs.Putting.{indexOf, behindOf, stepAfter, Opens, Puts}
+use Rattle.defining.specs.Putting.{indexOf, behindOf, stepAfter, Opens, Puts, Takes}
 use Rattle.defining.specs.declared.Step.{Step}
 use Rattle.defining.proofs.Parting.{Parted, parted}
 
@@ -110,12 +109,23 @@ module _ {K X : Type 0} {same below : K → K → Bool} (o : Linear same below) 
     pub laid : rows ≡ take (left + by) rows₀ ++ (map rowOf done ++ drop (length (puts (byKey below) entries ks F)) rows₀)
     pub clear : Clear below (take j ks) (drop left entries)
 
-  module _ (within : count ≤ length rows₀) (room : length after ≤ length rows₀) where
-    counted : length entries ≡ count
-    counted = length-map (take count rows₀) itemOf ∙ length-take-le count rows₀ within
+  -- a turn, that puts the key k: what it finds, that there is room, and what stands then
+  pub record Turn (j left by : ℕ) (rows : List (List ℕ)) (k : K) : Type 0 where
+    pub inside : left ≤ length rows
+    pub plain : Plain itemOf rowOf left rows
+    pub found : find same (map itemOf (take left rows)) k ≡ find same entries k
+    pub parted : Parted o k (map itemOf (take left rows)) (placeOf below same (map itemOf (take left rows)) k)
+    pub opens : Opens (placeOf below same (map itemOf (take left rows)) k) left by rows
+    pub next : (row : List ℕ) (rows′ : List (List ℕ)) (step : Step) → row ≡ rowOf (k, F k)
+        → Puts (placeOf below same (map itemOf (take left rows)) k) left by row rows rows′ step → Putting j (step .left) (step .by) rows′
 
-    pub putting-starts : (more : ℕ) → count + more ≡ length (puts (byKey below) entries ks F) → Putting (length ks) count more rows₀
-    putting-starts more e =
+  module _ (more : ℕ) (t : Takes below itemOf rowOf (puts (byKey below) entries ks F) rows₀ count more) where
+    counted : length entries ≡ count
+    counted = length-map (take count rows₀) itemOf ∙ length-take-le count rows₀ (t .within)
+
+    pub putting-starts : Putting (length ks) count more rows₀
+    putting-starts =
+        let e = t .total in
         let a = take-all count entries (omega (arith, counted)) in
         let b = take-all (length ks) ks (omega arith) in
         let none : drop count entries ≡ [] = drop-of-length-le entries {i = count} (omega (arith, counted)) in
@@ -128,14 +138,14 @@ module _ {K X : Type 0} {same below : K → K → Bool} (o : Linear same below) 
           clear = rw none (clear-none X below (take (length ks) ks));
         }
 
-    pub putting-ends : Plain itemOf rowOf count rows₀ → (left by : ℕ) (rows : List (List ℕ)) → Putting 0 left by rows
+    pub putting-ends : (left by : ℕ) (rows : List (List ℕ)) → Putting 0 left by rows
         → rows ≡ onto (map rowOf (puts (byKey below) entries ks F)) rows₀
-    putting-ends plain left by rows s =
+    putting-ends left by rows s =
         let n : length (take left entries) ≡ left = length-take-le left entries (omega (arith, counted, s .few)) in
         let e : left + by ≡ left = s .sum ∙ n in
         let f : map rowOf (take left entries) ≡ take left rows₀ =
         ap (map rowOf) (map-take itemOf left (take count rows₀) ∙ ap (map itemOf) (take-take left count rows₀ (s .few)))
-        ∙ plain-rows itemOf rowOf left rows₀ (λ i h. plain i (omega (arith, s .few))) (omega (arith, s .few)) in
+        ∙ plain-rows itemOf rowOf left rows₀ (λ i h. t .plain i (omega (arith, s .few))) (omega (arith, s .few, t .within)) in
         let g : map rowOf after ≡ take left rows₀ ++ map rowOf (s .done) =
         ap (map rowOf) (s .whole) ∙ map-append rowOf (take left entries) (s .done) ∙ ap (λ (z : List (List ℕ)). z ++ map rowOf (s .done)) f in
         s .laid ∙ ap (λ (m : ℕ). take m rows₀ ++ (map rowOf (s .done) ++ drop (length after) rows₀)) e
@@ -147,19 +157,18 @@ module _ {K X : Type 0} {same below : K → K → Bool} (o : Linear same below) 
     pub putting-length : (j left by : ℕ) (rows : List (List ℕ)) → Putting j left by rows → length rows ≡ length rows₀
     putting-length j left by rows s =
         let n = ap length (s .whole) ∙ length-append (puts (byKey below) (take left entries) (take j ks) F) (s .done) in
-        ap length (s .laid) ∙ simp (length-append, length-map, length-drop, length-take) (omega (arith, n, s .sum, room))
+        ap length (s .laid) ∙ simp (length-append, length-map, length-drop, length-take) (omega (arith, n, s .sum, t .room))
 
     -- ---- a turn ----
 
-    module _ (plain : Plain itemOf rowOf count rows₀) (climbs : Climbs below ks) (rise : rises (lower below) entries ≡ true) (j left by : ℕ)
-        (rows : List (List ℕ)) (s : Putting (j + 1) left by rows) where
+    module _ (climbs : Climbs below ks) (j left by : ℕ) (rows : List (List ℕ)) (s : Putting (j + 1) left by rows) where
       counts : length (take left entries) ≡ left
       counts = length-take-le left entries (omega (arith, counted, s .few))
 
       fits : left + by ≤ length rows₀
       fits =
           let n = ap length (s .whole) ∙ length-append (puts (byKey below) (take left entries) (take (j + 1) ks) F) (s .done) in
-          omega (arith, n, s .sum, room)
+          omega (arith, n, s .sum, t .room)
 
       -- the rows that stand as they were
       rows-front : (m : ℕ) → m ≤ left + by → take m rows ≡ take m rows₀
@@ -171,15 +180,15 @@ module _ {K X : Type 0} {same below : K → K → Bool} (o : Linear same below) 
       items-front : map itemOf (take left rows) ≡ take left entries
       items-front = ap (map itemOf) (rows-front left (omega arith) ∙ sym (take-take left count rows₀ (s .few))) ∙ sym (map-take itemOf left (take count rows₀))
 
-      pub turn-plain : Plain itemOf rowOf left rows
+      turn-plain : Plain itemOf rowOf left rows
       turn-plain i h =
           let same : getD rows i [] ≡ getD rows₀ i [] =
           sym (getD-take left rows i [] h) ∙ ap (λ (z : List (List ℕ)). getD z i []) (rows-front left (omega arith)) ∙ getD-take left rows₀ i [] h in
-          rw same (plain i (omega (arith, s .few)))
+          rw same (t .plain i (omega (arith, s .few)))
 
       front-rises : rises (lower below) (take left entries) ≡ true
       front-rises = climbs-rises (lower below) (take left entries)
-          (climbs-front (lower below) (take left entries) (drop left entries) (rw (take-append-drop left entries) (key-climbs o entries rise)))
+          (climbs-front (lower below) (take left entries) (drop left entries) (rw (take-append-drop left entries) (key-climbs o entries (t .rise))))
 
       module _ (d k : K) (h : j < length ks) (q : k ≡ getD ks j d) where
         keys : take (j + 1) ks ≡ take j ks ++ (k ∷ [])
@@ -229,19 +238,19 @@ module _ {K X : Type 0} {same below : K → K → Bool} (o : Linear same below) 
         opened = omega (arith, size, inside, before, puts-grows below (take i entries) (take j ks) F)
 
         -- what is found among the rows that stand is what is found among all
-        pub turn-found : find same (map itemOf (take left rows)) k ≡ find same entries k
+        turn-found : find same (map itemOf (take left rows)) k ≡ find same entries k
         turn-found =
             ap (λ (z : List (K × X)). find same z k) items-front
             ∙ sym (find-under o k (take left entries) (drop left entries) (clear-last below (take j ks) k (drop left entries) (rw keys at (s .clear))))
             ∙ ap (λ (z : List (K × X)). find same z k) (take-append-drop left entries)
 
-        pub turn-parted : Parted o k (map itemOf (take left rows)) (placeOf below same (map itemOf (take left rows)) k)
+        turn-parted : Parted o k (map itemOf (take left rows)) (placeOf below same (map itemOf (take left rows)) k)
         turn-parted = rw items-front w
 
         -- there is room for the key
-        pub turn-opens : count ≤ maxPairs → Opens (placeOf below same (map itemOf (take left rows)) k) left by rows
-        turn-opens few = rw items-front (record {
-          few = omega (arith, s .few);
+        turn-opens : Opens (placeOf below same (map itemOf (take left rows)) k) left by rows
+        turn-opens = rw items-front (record {
+          few = omega (arith, s .few, t .few);
           inside = inside;
           room = omega (arith, fits, putting-length (j + 1) left by rows s);
           opens = opened;
@@ -250,7 +259,7 @@ module _ {K X : Type 0} {same below : K → K → Bool} (o : Linear same below) 
         rows-behind : walks.left from left rows ≡ map rowOf behind
         rows-behind =
             ap (drop from) (rows-front left (omega arith)
-            ∙ sym (plain-rows itemOf rowOf left rows₀ (λ i p. plain i (omega (arith, s .few))) (omega (arith, s .few))))
+            ∙ sym (plain-rows itemOf rowOf left rows₀ (λ i p. t .plain i (omega (arith, s .few))) (omega (arith, s .few, t .within))))
             ∙ map-drop rowOf from (map itemOf (take left rows₀))
             ∙ ap (λ (z : List (K × X)). map rowOf (drop from z))
             (ap (map itemOf) (sym (take-take left count rows₀ (s .few))) ∙ sym (map-take itemOf left (take count rows₀)))
@@ -294,9 +303,19 @@ module _ {K X : Type 0} {same below : K → K → Bool} (o : Linear same below) 
               clear = still-clear;
             }
 
-        pub turn-puts : (row : List ℕ) (rows′ : List (List ℕ)) (step : Step) → row ≡ rowOf (k, F k)
+        turn-puts : (row : List ℕ) (rows′ : List (List ℕ)) (step : Step) → row ≡ rowOf (k, F k)
             → Puts (placeOf below same (map itemOf (take left rows)) k) left by row rows rows′ step → Putting j (step .left) (step .by) rows′
         turn-puts row rows′ step r p =
             let p′ = subst (λ (z : List (K × X)). Puts (placeOf below same z k) left by row rows rows′ step) items-front p in
             subst (λ (x : Step). Putting j (x .left) (x .by) rows′) (sym (p′ .steps))
             (subst (λ (z : List (List ℕ)). Putting j i (from + by - 1 - i) z) (sym (p′ .rows)) (put-down row r))
+
+        pub turn : Turn j left by rows k
+        turn = record {
+          inside = omega (arith, fits, putting-length (j + 1) left by rows s);
+          plain = turn-plain;
+          found = turn-found;
+          parted = turn-parted;
+          opens = turn-opens;
+          next = turn-puts;
+        }
