@@ -1,33 +1,41 @@
 -- Laws of an answer, a tick and an empty ledger: what they make of lent contents.
 use mathlib.Core.Path.{_≡_, refl, sym, ap, _∙_}
-use mathlib.Core.Bool.{Bool, true, false, cond, not, _&&_, _||_}
-use mathlib.Core.List.{List, [], _∷_, map}
+use mathlib.Core.Bool.{false, cond, not}
+use mathlib.Core.List.{List, [], map}
 use mathlib.Core.Option.{Option, none, some}
-use Prim.Native.Nat.{ℕ, _≤_}
+use Prim.Native.Nat.{ℕ, _<_}
+use native.Mathlib.Numerals.{add-one}
 use native.Mathlib.Omega.{arith}
-use lib.Dec.{eqb}
-use lib.ListN.{length, set}
+use lib.ListN.{length, getD, set}
 use lib.Seq.{set-getD}
 use Rattle.rules.specs.Entries.{alter}
-use Rattle.rules.specs.Mark.{Mark, fresh, confirmed, ticked, answered, open?}
+use Rattle.rules.specs.Mark.{Mark, ticked, answered, open?}
 use Rattle.rules.specs.Order.{tick}
 use Rattle.rules.specs.Effect.{effect, only}
-use Rattle.rules.specs.Ledger.{Pair, empty, view}
-use Rattle.rules.specs.Steps.{apply}
+use Rattle.rules.specs.Ledger.{Pair, samePair, empty, view}
+use Rattle.rules.specs.ByNumber.{belowPair}
+use Rattle.rules.specs.Refusals.{tests}
+use Rattle.rules.specs.Steps.{tally, apply, refused}
+use Rattle.rules.proofs.Tests.{clash}
+use Rattle.rules.proofs.ByKey.{apart, apart-back}
+use Rattle.rules.proofs.ByNumber.{pairs-linear}
 use Rattle.rules.proofs.Walks.{alter-all}
 use Rattle.order.specs.Steps.{answerStep}
 use Rattle.order.specs.declared.Gtsi.{Gtsi}
 use Rattle.order.specs.declared.Itsi.{Itsi}
 use Rattle.order.specs.Walks.{onto}
-use Rattle.store.specs.Places.{foundOf}
-use Rattle.store.specs.Storage.{Contents, contents, groupRow, groupsOf, pairRow, pairsOf, groupCount, pairCount, placing, ledgerOf, laid}
+use Rattle.store.specs.Places.{foundOf, placeOf}
+use Rattle.store.specs.Lists.{Fills}
+use Rattle.store.specs.declared.Place.{Place}
+use Rattle.store.specs.declared.Place.the-variants.{At, Free}
+use Rattle.store.specs.Storage.{Contents, contents, groupsOf, pairOf, pairRow, pairsOf, groupCount, pairCount, placing, ledgerOf, laid}
 use Rattle.store.specs.Form.{Sound}
-use Rattle.store.proofs.FormLaws.{Room}
-use Rattle.replies.proofs.Orders.{alter-same, alter-length, head-counts, set-both, count-groups, count-pairs, groups-stay}
-use Rattle.turning.specs.Turns.{staysOf, markOf, turnOf}
-use Rattle.turning.specs.declared.Turn.{Turn}
-use Rattle.turning.specs.declared.Turn.the-variants.{Confirm, Leave}
-use Rattle.answering.specs.Answers.{answerTurn, foundOpen}
+use Rattle.store.proofs.FormLaws.{Room, pairs-rise}
+use Rattle.store.proofs.HalvingLaws.{item-at}
+use Rattle.store.proofs.PlaceLaws.{InRows, in-rows}
+use Rattle.replies.proofs.Orders.{alter-length, head-counts, set-both, count-groups, count-pairs, groups-stay, tests-pass}
+use Rattle.answering.specs.Answers.{foundOpen, settled}
+use Rattle.answering.proofs.OneEntry.{alter-one-entry}
 
 -- what is found open is open
 pub found-open : (o : Option Mark) → foundOpen (foundOf o) ≡ open? o
@@ -52,37 +60,51 @@ module _ (c : Contents) (w : Sound c) where
       (alter-length (λ (k : Pair) m. ticked m) (pairsOf n (c .pairs)) ∙ count-pairs c w) in
       ap (λ (z : List ℕ). contents z (c .groups) rows) (sym (set-getD (c .head) 1 0)) ∙ turned-laid (λ g r m. some (ticked m)) n rows e d
 
--- an answer turns its one pair
-module _ (m : Mark) where
-  confirms : (x y : Bool) → some (cond ((x || false) && (y || false)) (fresh confirmed) m) ≡ cond (x && y) (some (fresh confirmed)) (some m)
-  confirms true true = refl
-  confirms true false = refl
-  confirms false y = refl
-
-  leaves : (x y : Bool) → cond (not ((x || false) && (y || false))) (some m) none ≡ cond (x && y) none (some m)
-  leaves true true = refl
-  leaves true false = refl
-  leaves false y = refl
-
-pub answered-turn : (g r result : ℕ) (k : Pair) (m : Mark) → turnOf (answerTurn result) (g ∷ []) (r ∷ []) k m ≡ cond (eqb (k .0) g && eqb (k .1) r)
-    (answered result) (some m)
-answered-turn g r result k m = go (eqb result 1)
-  where
-    go : (a : Bool) → cond (staysOf (cond a Confirm Leave) (g ∷ []) (r ∷ []) k) (some (markOf (cond a Confirm Leave) (g ∷ []) (r ∷ []) k m)) none ≡ cond
-        (eqb (k .0) g && eqb (k .1) r) (cond a (some (fresh confirmed)) none) (some m)
-    go true = confirms m (eqb (k .0) g) (eqb (k .1) r)
-    go false = leaves m (eqb (k .0) g) (eqb (k .1) r)
-
 -- no group and no pair is left
 pub empty-laid : (c : Contents) → Room c → contents (set (set (c .head) 0 0) 1 0) (c .groups) (c .pairs) ≡ laid empty c
 empty-laid c r = ap (λ (z : List ℕ). contents z (c .groups) (c .pairs)) (set-both (c .head) 0 0 (r .head))
 
-pub answered-laid : (c : Contents) → Sound c → (radio : Itsi) (group : Gtsi) (result : ℕ) (turn : Turn) (n : ℕ) (rows : List (List ℕ))
-    → turn ≡ answerTurn result → n ≡ length (alter (turnOf turn (group .0 ∷ []) (radio .0 ∷ [])) (pairsOf (pairCount c) (c .pairs)))
-    → rows ≡ onto (map pairRow (alter (turnOf turn (group .0 ∷ []) (radio .0 ∷ [])) (pairsOf (pairCount c) (c .pairs)))) (c .pairs)
-    → contents (set (c .head) 1 n) (c .groups) rows ≡ laid (apply placing (ledgerOf c) (effect (view (ledgerOf c)) (answerStep radio group result))) c
-answered-laid c w radio group result turn n rows t e d =
-    let turns : ℕ → ℕ → Mark → Option Mark = λ g r m. cond (eqb g (group .0) && eqb r (radio .0)) (answered result) (some m) in
-    let q = alter-same (turnOf turn (group .0 ∷ []) (radio .0 ∷ [])) (λ (k : Pair). turns (k .0) (k .1))
-    (λ k m. rw t (answered-turn (group .0) (radio .0) result k m)) (pairsOf (pairCount c) (c .pairs)) in
-    turned-laid c w turns n rows (e ∙ ap length q) (d ∙ ap (λ (z : List (Pair × Mark)). onto (map pairRow z) (c .pairs)) q)
+-- ---- an answer ----
+
+module _ (c : Contents) (w : Sound c) where
+  -- what the place of a pair says of the rows
+  pub pair-in-rows : (p : Place) (k : Pair) → p ≡ placeOf belowPair samePair (pairsOf (pairCount c) (c .pairs)) k
+      → InRows pairs-linear pairOf (c .pairs) (pairCount c) (omega (arith, w .pairs, w .fewPairs)) (pairs-rise c w) p k
+  pair-in-rows = in-rows pairs-linear pairOf (c .pairs) (pairCount c) (omega (arith, w .pairs, w .fewPairs)) (pairs-rise c w)
+
+  -- the pair at its place is the one that an answer turns
+  answered-one : (k : Pair) (result i : ℕ) → At i ≡ placeOf belowPair samePair (pairsOf (pairCount c) (c .pairs)) k
+      → alter (λ (j : Pair) m. cond (samePair j k) (answered result) (some m)) (pairsOf (pairCount c) (c .pairs))
+      ≡ settled (pairOf (getD (c .pairs) i []) .0) result i (pairsOf (pairCount c) (c .pairs))
+  answered-one k result i e =
+      let l = pairsOf (pairCount c) (c .pairs) in
+      let s = pair-in-rows (At i) k e in
+      let n = count-pairs c w in
+      let x : (j : ℕ) → j < pairCount c → getD l j (pairOf []) .0 ≡ pairOf (getD (c .pairs) j []) .0 =
+      λ j h. ap (λ (z : Pair × Mark). z .0) (item-at pairOf (c .pairs) (pairCount c) j h) in
+      alter-one-entry (λ j. samePair j k) (answered result) (pairOf []) l i (omega (arith, s .inside))
+      (λ j h. rw (x j (omega (arith, s .inside))) (apart pairs-linear (pairOf (getD (c .pairs) j []) .0) k (s .before j h)))
+      (ap (λ (z : Pair). samePair z k) (x i (s .inside) ∙ s .is) ∙ pairs-linear .itself k)
+      (λ j h m. let q : j < pairCount c = omega arith in
+      rw (x j q) (apart-back pairs-linear k (pairOf (getD (c .pairs) j []) .0) (s .behind j h q)))
+      ∙ rw (x i (s .inside), add-one)
+
+  pub answered-laid : (radio : Itsi) (group : Gtsi) (result i n : ℕ) (rows : List (List ℕ))
+      → At i ≡ placeOf belowPair samePair (pairsOf (pairCount c) (c .pairs)) (group .0, radio .0)
+      → Fills pairRow (settled (pairOf (getD (c .pairs) i []) .0) result i (pairsOf (pairCount c) (c .pairs))) (c .pairs) rows n
+      → contents (set (c .head) 1 n) (c .groups) rows ≡ laid (apply placing (ledgerOf c) (effect (view (ledgerOf c)) (answerStep radio group result))) c
+  answered-laid radio group result i n rows e f =
+      let q = sym (answered-one (group .0, radio .0) result i e) in
+      turned-laid c w (λ g r m. cond (samePair (g, r) (group .0, radio .0)) (answered result) (some m)) n rows (f .counts ∙ ap length q)
+      (f .rows ∙ ap (λ (z : List (Pair × Mark)). onto (map pairRow z) (c .pairs)) q)
+
+  -- an answer of a pair that is not there is refused
+  pub no-pair-refused : {P : Type 0} (radio : Itsi) (group : Gtsi) (result i : ℕ)
+      → Free i ≡ placeOf belowPair samePair (pairsOf (pairCount c) (c .pairs)) (group .0, radio .0)
+      → refused placing (ledgerOf c) (answerStep radio group result) ≡ none → P
+  no-pair-refused radio group result i e t =
+      let s = answerStep radio group result in
+      let v = view (ledgerOf c) in
+      let q = tests-pass (tests v (tally placing (ledgerOf c) (effect v s)) s) t 2 in
+      let f = pair-in-rows (Free i) (group .0, radio .0) e .found in
+      clash (rw f at q)

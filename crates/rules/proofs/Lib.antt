@@ -17,6 +17,7 @@ pub mod Written
 pub mod Listing
 pub mod Demand
 pub mod Alike
+pub mod Stretches
 pub mod Anew
 pub mod LawOrder
 pub mod Steps

@@ -20,7 +20,7 @@ use Rattle.rules.specs.Refusals.{accepted, maxGroups, maxPairs, refuses,
 use Rattle.rules.specs.Ledger.{Group, Pair, samePair, Ledger, empty, group, parametersOf, view}
 use Rattle.rules.specs.Placing.{Placing, Lawful}
 use Rattle.rules.specs.Steps.{ownersAfter, given, groupAfter, apply, refused, step}
-use Rattle.rules.specs.Written.{goodOwners, goodGroup, goodMark, goodPair, written}
+use Rattle.rules.specs.Written.{maxOwners, goodOwners, goodGroup, goodMark, goodPair, written}
 use Rattle.rules.specs.History.{History, start, _then_}
 use Rattle.rules.specs.Run.{run}
 use Rattle.rules.proofs.Tests.{split, clash, and-in, and-l, and-r, or-l, or-r, not-in}
@@ -86,6 +86,25 @@ module _ (p : Placing) (l : Ledger) where
       stands g r a none q e = clash (sym e)
       stands g r a (some m) q e =
           and-r (goodMark m) (present (group l g)) (and-r (not (wideKey r)) (goodMark m && present (group l g)) (pair g r m a q))
+
+-- every pair is good, and every group's owners stand in the placing's form
+pub pairs-good : (p : Placing) (l : Ledger) → written p l ≡ true → all (goodPair l) (l .pairs) ≡ true
+pairs-good p l h =
+    let good = all (goodGroup p) (l .groups) && all (goodPair l) (l .pairs) in
+    let groupsStand = p .groups .form (l .groups) in
+    let pairsStand = p .pairs .form (l .pairs) in
+    let h₁ = and-r (leb (length (l .groups)) maxGroups) (leb (length (l .pairs)) maxPairs && (groupsStand && (pairsStand && good))) h in
+    let h₂ = and-r (leb (length (l .pairs)) maxPairs) (groupsStand && (pairsStand && good)) h₁ in
+    and-r (all (goodGroup p) (l .groups)) (all (goodPair l) (l .pairs)) (and-r pairsStand good (and-r groupsStand (pairsStand && good) h₂))
+
+pub owners-form : (p : Placing) (l : Ledger) → Form p l → (g : ℕ) (x : Group) → group l g ≡ some x → p .owners .form (x .owners) ≡ true
+owners-form p l f g x e =
+    let os = x .owners in
+    let narrow = all (λ a. not (wideKey a)) os in
+    let bad = badParameters (x .parameters) in
+    let k = and-l (goodOwners p os) (not bad) (and-r (not (wideKey g)) (goodOwners p os && not bad) (f .groups g x e)) in
+    let m = and-r (ltb 0 (length os)) (leb (length os) maxOwners && (p .owners .form os && narrow)) k in
+    and-l (p .owners .form os) narrow (and-r (leb (length os) maxOwners) (p .owners .form os && narrow) m)
 
 -- ---- what an effect needs so that the form stays ----
 

@@ -22,3 +22,4 @@ pub mod Run
 pub mod Written
 pub mod Demand
 pub mod Alike
+pub mod Stretches

@@ -1,5 +1,4 @@
 -- `answering::is_open` meets its contract.
-use mathlib.Core.Path.{sym}
 use borrow.Author.Needs.{needs}
 use Rattle.answering.proofs.is_open.Statement.{statement}
 use Rattle.answering.proofs.is_open.Tie as tie
