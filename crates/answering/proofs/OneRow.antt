@@ -1,39 +1,24 @@
 -- Of rows that are the rows of what they say one is replaced or taken out.
 use mathlib.Core.Path.{_≡_, refl, sym, ap, _∙_}
 use mathlib.Core.List.{List, [], _∷_, _++_, map, map-append, append-assoc}
-use Prim.Native.Nat.{ℕ, zero, suc, _+_, _-_, _≤_, _<_}
+use Prim.Native.Nat.{ℕ, _+_, _-_, _≤_, _<_}
 use native.Mathlib.Numerals.{add-one}
 use native.Mathlib.Omega.{arith}
 use lib.ListN.{length, take, drop, set, take-append-drop, length-append, length-take, length-drop, length-map}
-use lib.Seq.{take-take, take-at, length-take-le, drop-append-le, set-split}
+use lib.Seq.{take-take, length-take-le, drop-append-le, set-split}
 use Rattle.order.specs.Walks.{left}
+use Rattle.order.proofs.Walks.{map-take, map-drop}
 use Rattle.store.specs.Lists.{Plain, Fills}
-use Rattle.store.proofs.Rows.{items, length-items, lay-plain}
+use Rattle.store.proofs.Rows.{items, length-items, plain-rows}
 use Rattle.answering.specs.Answers.{closed}
-
-map-take : {A B : Type 0} (f : A → B) (i : ℕ) (l : List A) → map f (take i l) ≡ take i (map f l)
-map-take f zero l = refl
-map-take f (suc i) [] = refl
-map-take f (suc i) (x ∷ l) = ap (λ z. f x ∷ z) (map-take f i l)
-
-map-drop : {A B : Type 0} (f : A → B) (i : ℕ) (l : List A) → map f (drop i l) ≡ drop i (map f l)
-map-drop f zero l = refl
-map-drop f (suc i) [] = refl
-map-drop f (suc i) (x ∷ l) = map-drop f i l
 
 module _ {X : Type 0} (itemOf : List ℕ → X) (rowOf : X → List ℕ) (rows : List (List ℕ)) (n i : ℕ) (h : i < n) (q : n ≤ length rows)
     (p : Plain itemOf rowOf n rows) where
-  same-rows : map rowOf (items itemOf rowOf n rows) ≡ take n rows
-  same-rows =
-      let k = map rowOf (items itemOf rowOf n rows) in
-      let e : length k ≡ n = length-map (items itemOf rowOf n rows) rowOf ∙ length-items itemOf rowOf rows n q in
-      sym (take-at k (drop (length k) rows) n e) ∙ ap (take n) (lay-plain itemOf rowOf rows n q p)
-
   before-rows : map rowOf (take i (items itemOf rowOf n rows)) ≡ take i rows
-  before-rows = map-take rowOf i (items itemOf rowOf n rows) ∙ ap (take i) same-rows ∙ take-take i n rows (omega arith)
+  before-rows = sym (map-take rowOf i (items itemOf rowOf n rows)) ∙ ap (take i) (plain-rows itemOf rowOf n rows p q) ∙ take-take i n rows (omega arith)
 
   behind-rows : map rowOf (drop (i + 1) (items itemOf rowOf n rows)) ≡ left (i + 1) n rows
-  behind-rows = map-drop rowOf (i + 1) (items itemOf rowOf n rows) ∙ ap (drop (i + 1)) same-rows
+  behind-rows = sym (map-drop rowOf (i + 1) (items itemOf rowOf n rows)) ∙ ap (drop (i + 1)) (plain-rows itemOf rowOf n rows p q)
 
   -- some items for the one at i
   instead : (xs : List X) (count : ℕ) (after : List (List ℕ)) → count + 1 ≡ n + length xs

@@ -3,11 +3,11 @@ use mathlib.Core.Path.{_≡_, refl, sym, ap, _∙_}
 use mathlib.Core.List.{List, [], _∷_, map, map-map}
 use mathlib.Core.Bool.{Bool, true, false, cond}
 use mathlib.Core.Option.{none, some}
-use Prim.Native.Nat.{ℕ, zero, suc, _+_, _-_, _≤_, _<_}
+use Prim.Native.Nat.{ℕ, _+_, _-_, _≤_, _<_}
 use native.Mathlib.Omega.{arith}
 use lib.Dec.{ltb}
 use lib.ListN.{length, length-map}
-use lib.Seq.{drop-nil, take-take}
+use lib.Seq.{take-take}
 use borrow.Author.Tests.{lt-ltb, le-ltb}
 use Rattle.refusal.specs.declared.Refusal.{Refusal}
 use Rattle.refusal.specs.declared.Refusal.the-variants.{NotWritten, NoRoom}
@@ -35,13 +35,8 @@ use Rattle.replies.specs.declared.Members.the-variants as members
 use Rattle.replies.proofs.Orders.{first-none, first-some, reply-some, count-pairs}
 use Rattle.asking.specs.Copied.{InStretch, listed, copied}
 use Rattle.asking.proofs.Asking.{asked-none}
+use Rattle.order.proofs.Walks.{map-left}
 use Rattle.asking.proofs.Copying.{copied-length}
-
-left-map : {A B : Type 0} (f : A → B) (i n : ℕ) (l : List A) → left i n (map f l) ≡ map f (left i n l)
-left-map f i zero l = drop-nil i ∙ ap (map f) (sym (drop-nil i))
-left-map f i (suc n) [] = drop-nil i ∙ ap (map f) (sym (drop-nil i))
-left-map f zero (suc n) (x ∷ l) = ap (λ z. f x ∷ z) (left-map f zero n l)
-left-map f (suc i) (suc n) (x ∷ l) = left-map f i n l
 
 module _ (c : Contents) (asker : Itsi) (group : Gtsi) (room : Rows) where
   abbrev last : List (Refusal × Bool)
@@ -95,7 +90,7 @@ module _ (c : Contents) (asker : Itsi) (group : Gtsi) (room : Rows) where
         let n = count-pairs c w in
         let m : s .from + (s .to - s .from) ≡ s .to = omega arith in
         let k : s .to ≤ pairCount c = omega arith in
-        rw (m, left-map, take-take (s .to) (pairCount c) (c .pairs) k)
+        rw (m, map-left, take-take (s .to) (pairCount c) (c .pairs) k)
 
     rows : copied (s .from) (s .to - s .from) (c .pairs) ≡ map entryRow listing
     rows =

@@ -2,7 +2,7 @@
 use mathlib.Core.Path.{_≡_, refl, sym, ap, subst, _∙_}
 use mathlib.Core.Bool.{Bool, true}
 use mathlib.Core.List.{List, [], _∷_, _++_, map, map-append, append-nil, append-assoc}
-use Prim.Native.Nat.{ℕ, zero, suc, _+_, _-_, _≤_, _<_}
+use Prim.Native.Nat.{ℕ, suc, _+_, _-_, _≤_, _<_}
 use native.Mathlib.Numerals.{add-one}
 use native.Mathlib.Omega.{arith}
 use lib.ListN.{length, getD, set, take, drop, length-append, length-take, length-drop, length-map, take-append-drop, drop-of-length-le}
@@ -17,9 +17,11 @@ use Rattle.rules.proofs.ByKey.{Linear, key-climbs}
 use Rattle.rules.proofs.PutsByKey.{Under, Clear, Lower, climbs-last, clear-none, clear-lower, find-under, puts-last}
 use Rattle.order.specs.Walks.{onto, moved}
 use Rattle.order.specs.Walks as walks
+use Rattle.order.proofs.Walks.{map-take, map-drop}
 use Rattle.order.proofs.Moves.{moved-set}
 use Rattle.store.specs.Lists.{Plain}
 use Rattle.store.specs.Places.{placeOf}
+use Rattle.store.proofs.Rows.{plain-rows}
 use Rattle.store.specs.declared.Place.{Place}
 use Rattle.defining.specs.Putting.{indexOf, behindOf, stepAfter, Opens, Puts, Takes}
 use Rattle.defining.specs.declared.Step.{Step}
@@ -36,23 +38,6 @@ row-put place found e left by from f rowAt row r before middle m step t =
     })
 
 -- ---- lists ----
-
--- rows that are the rows of what they say
-plain-rows : {X : Type 0} (itemOf : List ℕ → X) (rowOf : X → List ℕ) (n : ℕ) (rows : List (List ℕ)) → Plain itemOf rowOf n rows → n ≤ length rows
-    → map rowOf (map itemOf (take n rows)) ≡ take n rows
-plain-rows itemOf rowOf zero rows p h = refl
-plain-rows itemOf rowOf (suc n) [] p h = absurd (omega arith)
-plain-rows itemOf rowOf (suc n) (x ∷ rows) p h = λ i. p 0 (omega arith) i ∷ plain-rows itemOf rowOf n rows (λ i h. p (suc i) (omega arith)) (omega arith) i
-
-map-take : {A B : Type 0} (f : A → B) (n : ℕ) (l : List A) → take n (map f l) ≡ map f (take n l)
-map-take f zero l = refl
-map-take f (suc n) [] = refl
-map-take f (suc n) (x ∷ l) = ap (λ z. f x ∷ z) (map-take f n l)
-
-map-drop : {A B : Type 0} (f : A → B) (n : ℕ) (l : List A) → drop n (map f l) ≡ map f (drop n l)
-map-drop f zero l = refl
-map-drop f (suc n) [] = refl
-map-drop f (suc n) (x ∷ l) = map-drop f n l
 
 climbs-front : {A : Type 0} (below : A → A → Bool) (a b : List A) → Climbs below (a ++ b) → Climbs below a
 climbs-front below [] b c = tt

@@ -4,7 +4,6 @@ use mathlib.Core.Bool.{Bool, true, false, cond, not, _&&_, _||_, true≢false}
 use mathlib.Core.List.{List, [], _∷_, _++_, map}
 use mathlib.Core.Option.{none, some}
 use Prim.Native.Nat.{ℕ, _≤_}
-use native.Mathlib.Omega.{arith}
 use borrow.Author.Tests.{ltb-false}
 use lib.ListN.{length, set}
 use Rattle.refusal.specs.declared.Refusal.{Refusal}
@@ -14,16 +13,12 @@ use Rattle.rules.specs.Mark.{Mark}
 use Rattle.rules.specs.Number.{numbersIn}
 use Rattle.rules.specs.Order.{Step}
 use Rattle.rules.specs.Effect.{effect}
-use Rattle.rules.specs.Outgoing.{outgoing}
+use Rattle.rules.specs.Outgoing.{deassign, orders, outgoing}
 use Rattle.rules.specs.Refusals.{first, tests}
-use Rattle.rules.specs.Demand.{entryRadios}
 use Rattle.rules.specs.Ledger.{Group, Pair, view, members}
 use Rattle.rules.specs.Steps.{tally, apply, refused}
-use Rattle.rules.proofs.Effects.{pairs-single}
-use Rattle.rules.proofs.Arrival.{by-arrival}
 use Rattle.rules.proofs.Walks.{alter-all}
-use Rattle.rules.proofs.Listing.{listed-members, entries-radios}
-use Rattle.rules.proofs.Written.{written-form}
+use Rattle.rules.proofs.Listing.{stretch-members}
 use Rattle.order.specs.Lists.{numbersOf, listOf}
 use Rattle.order.specs.Steps.{deleteStep}
 use Rattle.order.specs.declared.Itsi.{Itsi}
@@ -32,14 +27,13 @@ use Rattle.order.specs.Walks.{onto}
 use Rattle.store.specs.Lists.{Fills}
 use Rattle.store.specs.Storage.{Rows, Contents, contents, groupRow, pairRow, placing, ledgerOf, laid}
 use Rattle.store.specs.Form.{Sound}
-use Rattle.store.proofs.FormLaws.{law-form}
+use Rattle.store.proofs.FormLaws.{pairs-rise}
 use Rattle.replies.specs.Orders.{replyOf, verdict}
 use Rattle.replies.specs.declared.Reply.{Reply}
 use Rattle.replies.specs.declared.Reply.the-variants.{Done, Refused}
 use Rattle.replies.proofs.Orders.{set-both, first-none, first-some, reply-none, reply-some, alter-same, tests-pass}
 use Rattle.turning.specs.Turns.{turnOf}
-use Rattle.gathering.specs.Rows.{everyone}
-use Rattle.deleting.specs.Leaving.{leavingOrders}
+use Rattle.deleting.specs.Leaving.{among, leaving, leavingOrders}
 use Rattle.deleting.specs.Deletes.{formTests, standTests, deleteTurn, groupsLeft, pairsLeft}
 
 given-present : {A : Type 0} (b : Bool) (x : A) → present (cond b (some x) none) ≡ b
@@ -53,10 +47,13 @@ join-same f g h (x ∷ l) = rw (h x, join-same f g h l)
 -- ---- the tests and the orders ----
 
 module _ (c : Contents) (w : Sound c) where
-  everyone-members : (g : ℕ) → everyone (ledgerOf c .pairs) g ≡ members (ledgerOf c) g
-  everyone-members g =
-      let once = pairs-single placing by-arrival (ledgerOf c) (written-form placing (ledgerOf c) (law-form c w) .standing) in
-      ap entryRadios (listed-members (ledgerOf c) g once) ∙ entries-radios (view (ledgerOf c)) g (members (ledgerOf c) g)
+  -- all members are the radios of the group's stretch
+  all-leave : (leave listed : Bool) (radios : List ℕ) (g : ℕ)
+      → orders deassign g (cond leave (cond listed (among (ledgerOf c .pairs) g radios) (members (ledgerOf c) g)) [])
+      ≡ orders deassign g (leaving leave listed radios (ledgerOf c .pairs) g)
+  all-leave leave listed radios g =
+      ap (λ (z : List ℕ). orders deassign g (cond leave (cond listed (among (ledgerOf c .pairs) g radios) z) []))
+      (sym (stretch-members (ledgerOf c) g (pairs-rise c w)))
 
   -- the groups are a list that is given
   module _ (asker : Itsi) (named : Listed) (given : named .given ≡ true) (remove deassign : Bool) (radios : Listed) (room : ℕ) where
@@ -73,7 +70,8 @@ module _ (c : Contents) (w : Sound c) where
     pub delete-sends : outgoing (view (ledgerOf c)) (tally placing (ledgerOf c) (effect (view (ledgerOf c)) step)) step
         ≡ leavingOrders deassign (radios .given) (numbersIn (listOf radios)) (ledgerOf c .pairs) (numbersIn (listOf named))
     delete-sends = rw given (join-same _ _
-        (λ g. rw (given-present (radios .given) (numbersOf (radios .numbers)), everyone-members g)) (numbersIn (some (numbersOf (named .numbers)))))
+        (λ g. rw (given-present (radios .given) (numbersOf (radios .numbers))) (all-leave deassign (radios .given) (numbersIn (listOf radios)) g))
+        (numbersIn (some (numbersOf (named .numbers)))))
 
     -- its tests are those of form, then those of what stands
     delete-tests : tests (view (ledgerOf c)) (tally placing (ledgerOf c) (effect (view (ledgerOf c)) step)) step ≡ forms ++ stands

@@ -1,26 +1,35 @@
--- Laws of who leaves by a delete: radios kept in lent room, and their orders laid group by group.
-use mathlib.Core.Path.{_≡_, sym, ap, _∙_}
+-- Laws of who leaves by a delete: listed radios kept in lent room, the radios of a group's stretch, and their orders laid group by group.
+use mathlib.Core.Path.{_≡_, refl, sym, ap, _∙_}
 use mathlib.Core.Bool.{Bool, true, false, cond}
-use mathlib.Core.List.{List, [], _∷_, _++_, map, append-nil}
-use Prim.Native.Nat.{ℕ, _+_, _≤_, _<_}
+use mathlib.Core.List.{List, [], _∷_, _++_, map, map-map, append-nil}
+use Prim.Native.Nat.{ℕ, _+_, _-_, _≤_, _<_}
 use native.Mathlib.Numerals.{add-one}
 use native.Mathlib.Omega.{arith}
-use lib.ListN.{length, getD, set, take, length-append, length-map}
-use lib.Seq.{paste, take-suc}
-use Rattle.rules.specs.Lists.{keep}
+use lib.ListN.{length, getD, set, take, drop, length-append, length-map, length-drop, List·getD-map}
+use lib.Seq.{paste, take-suc, take-at, take-take, length-take-le, getD-drop, getD-take}
+use Rattle.rules.specs.Lists.{keep, present}
+use Rattle.rules.specs.Entries.{find}
 use Rattle.rules.specs.Mark.{Mark}
-use Rattle.rules.specs.Ledger.{Pair}
+use Rattle.rules.specs.Ledger.{Pair, samePair, radiosOf}
 use Rattle.rules.specs.Refusals.{maxPairs}
 use Rattle.rules.specs.Outgoing.{Outgoing, deassign, orders}
+use Rattle.rules.proofs.ListLaws.{length-keep}
 use Rattle.rules.proofs.Walks.{keep-append}
-use Rattle.order.specs.Walks.{onto}
-use Rattle.store.specs.Storage.{Rows}
-use Rattle.order.proofs.Walks.{onto-length, onto-more}
+use Rattle.order.specs.Walks.{left, onto}
+use Rattle.order.proofs.Walks.{onto-more, map-left}
+use Rattle.store.specs.Storage.{Rows, Contents, pairOf, pairRow, pairsOf, pairCount}
+use Rattle.store.specs.Form.{Sound}
+use Rattle.store.specs.Places.{stretchOf}
+use Rattle.store.specs.declared.Stretch.{Stretch}
+use Rattle.store.proofs.FormLaws.{pairs-rise, radios-narrow}
+use Rattle.store.proofs.Rows.{length-items}
+use Rattle.store.proofs.Stretches.{Stretched, stretched}
 use Rattle.replies.specs.Sending.{orderRow}
-use Rattle.gathering.proofs.Members.{taken-front}
 use Rattle.sending.specs.Pushed.{pushed}
 use Rattle.sending.proofs.Pushing.{pushed-fits, length-rows, join-turn, join-front, send-turn}
-use Rattle.deleting.specs.Leaving.{leaving, leavingOrders}
+use Rattle.deleting.specs.Leaving.{among, leaving, leavingOrders, Stretches, leavingRows, stretchRadios}
+
+-- ---- listed radios ----
 
 -- a walk that keeps what passes at the front of lent room
 module _ (p : ℕ → Bool) (xs out out₀ : List ℕ) (i k : ℕ) (h : i < length xs)
@@ -39,9 +48,65 @@ module _ (p : ℕ → Bool) (xs out out₀ : List ℕ) (i k : ℕ) (h : i < leng
   pub kept-out : p (getD xs i 0) ≡ false → (k ≡ length (keep p (take (i + 1) xs))) × (out ≡ onto (keep p (take (i + 1) xs)) out₀)
   kept-out q = rw (kept-turn false q, append-nil) (n, e)
 
--- a room in whose front radios were laid is as long as it was
-pub room-stays : (l room room′ : List ℕ) (n : ℕ) → n ≡ length l → room′ ≡ onto l room → n ≤ maxPairs → length room ≡ maxPairs → length room′ ≡ maxPairs
-room-stays l room room′ n e d h r = rw d (onto-length l room (omega (arith, e, h, r)) ∙ r)
+pub among-few : (pairs : List (Pair × Mark)) (g : ℕ) (radios : List ℕ) → length (among pairs g radios) ≤ length radios
+among-few pairs g radios = length-keep (λ r. present (find samePair pairs (g, r))) radios
+
+-- the orders to radios that stand at the front of a room are laid, where they fit
+pub pushed-front : (l room room′ : List ℕ) (g n at : ℕ) (out out′ : Rows) → n ≡ length l → room′ ≡ onto l room → at + n ≤ length out
+    → out′ ≡ pushed out at (leavingRows g (take n room′)) → out′ ≡ paste out at (leavingRows g l) n
+pushed-front l room room′ g n at out out′ e d h q =
+    let f : take n room′ ≡ l = rw d (take-at l (drop (length l) room) n (sym e)) in
+    let k : length (leavingRows g l) ≡ n = length-rows deassign g l ∙ sym e in
+    q ∙ ap (λ (z : List ℕ). pushed out at (leavingRows g z)) f ∙ pushed-fits out at (leavingRows g l) (omega (arith, k, h))
+    ∙ ap (paste out at (leavingRows g l)) k
+
+-- ---- the radios of a group's stretch ----
+
+-- contents in their form have the pairs in stretches
+pub stretches : (c : Contents) → Sound c → Stretches (pairCount c) (c .pairs)
+stretches c w = record { inside = omega (arith, w .pairs, w .fewPairs); few = w .fewPairs; rise = pairs-rise c w; narrow = radios-narrow c w }
+
+module _ (from to : ℕ) (rows : Rows) where
+  pub radios-count : to ≤ length rows → length (stretchRadios from to rows) ≡ to - from
+  radios-count h = length-map (left from to rows) _ ∙ length-drop from (take to rows) ∙ ap (λ (n : ℕ). n - from) (length-take-le to rows h)
+
+  pub radio-in : (i : ℕ) → from + i < to → getD (stretchRadios from to rows) i 0 ≡ pairOf (getD rows (from + i) []) .0 .1
+  radio-in i h = List·getD-map (λ (row : List ℕ). pairOf row .0 .1) (left from to rows) i []
+      ∙ ap (λ (row : List ℕ). pairOf row .0 .1) (getD-drop from (take to rows) i [] ∙ getD-take to rows (from + i) [] h)
+
+  -- in as many rows as are in use
+  radios-of : (count : ℕ) → to ≤ count → map (λ (e : Pair × Mark). e .0 .1) (left from to (pairsOf count rows)) ≡ stretchRadios from to rows
+  radios-of count h =
+      let radio : Pair × Mark → ℕ = λ e. e .0 .1 in
+      ap (map radio) (map-left pairOf from to (take count rows)) ∙ map-map radio pairOf (left from to (take count rows))
+      ∙ ap (λ (l : Rows). map (λ (row : List ℕ). pairOf row .0 .1) (drop from l)) (take-take to count rows h)
+
+-- the stretch lies in the rows in use, and its radios are the group's
+pub record Spans (count : ℕ) (rows : Rows) (g : ℕ) (s : Stretch) : Type 0 where
+  pub ordered : s .from ≤ s .to
+  pub inside : s .to ≤ count
+  pub radios : radiosOf g (pairsOf count rows) ≡ stretchRadios (s .from) (s .to) rows
+  pub counts : length (radiosOf g (pairsOf count rows)) ≡ s .to - s .from
+
+module _ (count : ℕ) (rows : Rows) (w : Stretches count rows) (g : ℕ) where
+  pub spans : (s : Stretch) → s ≡ stretchOf (pairsOf count rows) g → Spans count rows g s
+  spans s e =
+      let t : Stretched (pairsOf count rows) g s = rw e (stretched (pairsOf count rows) g (w .rise) (w .narrow)) in
+      let h : s .to ≤ count = omega (arith, t .inside, length-items pairOf pairRow rows count (w .inside)) in
+      let r = t .radios ∙ radios-of (s .from) (s .to) rows count h in
+      record {
+        ordered = t .ordered;
+        inside = h;
+        radios = r;
+        counts = ap length r ∙ radios-count (s .from) (s .to) rows (omega (arith, h, w .inside));
+      }
+
+  -- a group has no more radios than there are pairs
+  pub leaving-few : (leave listed : Bool) (radios : List ℕ) → length radios ≤ 10
+      → length (leaving leave listed radios (pairsOf count rows) g) ≤ maxPairs
+  leaving-few false listed radios h = omega arith
+  leaving-few true true radios h = omega (arith, h, among-few (pairsOf count rows) g radios)
+  leaving-few true false radios h = let s = spans (stretchOf (pairsOf count rows) g) refl in omega (arith, s .counts, s .inside, w .few)
 
 -- ---- orders, group by group ----
 
@@ -63,14 +128,8 @@ module _ (leave listed : Bool) (radios : List ℕ) (pairs : List (Pair × Mark))
   within = omega (arith, counted, join-front sent named (i + 1))
 
   -- a turn that lays the group's orders
-  pub sent-more : (room room′ : List ℕ) (out out′ out₀ : Rows) → room′ ≡ onto (leaving leave listed radios pairs g) room
-      → length (leavingOrders leave listed radios pairs named) ≤ length out
-      → out ≡ onto (map orderRow (leavingOrders leave listed radios pairs (take i named))) out₀
-      → out′ ≡ pushed out at (map orderRow (orders deassign g (take n room′)))
+  pub sent-more : (out out′ out₀ : Rows) → out ≡ onto (map orderRow (leavingOrders leave listed radios pairs (take i named))) out₀
+      → out′ ≡ paste out at (leavingRows g (leaving leave listed radios pairs g)) n
       → out′ ≡ onto (map orderRow (leavingOrders leave listed radios pairs (take (i + 1) named))) out₀
-  sent-more room room′ out out′ out₀ d r o q =
-      let rows = map orderRow (sent g) in
-      let k : length rows ≡ n = length-rows deassign g (leaving leave listed radios pairs g) ∙ sym m in
-      let t = q ∙ ap (λ (z : List ℕ). pushed out at (map orderRow (orders deassign g z))) (taken-front (leaving leave listed radios pairs g) room room′ n m d)
-      ∙ pushed-fits out at rows (omega (arith, k, within, r)) ∙ ap (paste out at rows) k ∙ ap (λ (x : ℕ). paste out at (map orderRow (sent x)) n) e in
-      send-turn sent named out out′ out₀ i at n h a count-at o t .1
+  sent-more out out′ out₀ o q =
+      send-turn sent named out out′ out₀ i at n h a count-at o (q ∙ ap (λ (x : ℕ). paste out at (map orderRow (sent x)) n) e) .1

@@ -3,6 +3,7 @@ pub mod Rows
 pub mod Storage
 pub mod HalvingLaws
 pub mod PlaceLaws
+pub mod LookedUp
 pub mod Stretches
 pub mod Tests
 pub mod Groups
