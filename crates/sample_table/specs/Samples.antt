@@ -22,7 +22,9 @@ use Rattle.rules.specs.Replies.{Entry, Listing}
 use Rattle.rules.specs.History.{History, start, _then_, refusalIn, listIn}
 use Rattle.rules.specs.Ledger.{list}
 use Rattle.rules.specs.Steps as steps
+use Rattle.rules.specs.Placing.{Placing}
 use Rattle.rules.specs.Arrival.{byArrival}
+use Rattle.rules.specs.ByNumber.{byNumber}
 use Rattle.rules.specs.Run.{run}
 
 pub data Sample : Type 0 where
@@ -179,6 +181,10 @@ sameEntries (x ∷ xs) (y ∷ ys) = eqb (x .0) (y .0) && eqb (x .1) (y .1) && sa
 abbrev lists : List Entry → Listing → Bool
 lists entries reply = eqb (replyNumber (reply .refused)) 0 && sameEntries (reply .entries) entries
 
+abbrev onLedger : Placing → History → Step → ℕ → List Entry → Bool
+onLedger placing before next n entries =
+    eqb (replyNumber (steps.refused placing (run placing before) next)) n && lists entries (list (run placing (before then next)) 1 5 1)
+
 -- the reader's answer, and the writer's into that many zero bytes
 unfoldable pub passes : Sample → Bool
 passes (taken kind count bytes s) =
@@ -191,9 +197,9 @@ passes (taken kind count bytes s) =
 passes (refused kind count bytes n bit) =
     let reading = readingOf kind bytes count in
     refusesWith n bit (reading .verdict) && same (reading .values .place) (filled [])
--- by what the history means, and on the abstract ledger by arrival after it
+-- by what the history means, and on the abstract ledger after it, by arrival as by number
 passes (ordered before next n entries) =
     eqb (replyNumber (refusalIn before next)) n
     && lists entries (listIn (before then next) 1 5 1)
-    && eqb (replyNumber (steps.refused byArrival (run byArrival before) next)) n
-    && lists entries (list (run byArrival (before then next)) 1 5 1)
+    && onLedger byArrival before next n entries
+    && onLedger byNumber before next n entries
