@@ -13,7 +13,7 @@ use Rattle.rules.specs.Mark.{Mark, fresh}
 use Rattle.rules.specs.Ledger.{Group, Pair, samePair}
 use Rattle.rules.specs.ByNumber.{byKey, belowPair}
 use Rattle.rules.specs.Steps.{groupAfter, product}
-use Rattle.rules.proofs.ListLaws.{eqb-same, once-unique, mem-sorted, rising-sorted}
+use Rattle.rules.proofs.ListLaws.{eqb-same, once-unique, mem-order, rising-order}
 use Rattle.rules.proofs.Pairs.{pair-sound, pair-itself, any-product, product-apart, length-product}
 use Rattle.rules.proofs.Puts.{length-puts}
 use Rattle.rules.proofs.Rises.{rising-rises}
@@ -31,8 +31,8 @@ use Rattle.defining.specs.Putting.{Takes}
 use Rattle.defining.specs.Totals.{newGroups, newPairs}
 
 -- a list in which no number stands twice rises once it is put in order
-pub sorted-rises : (l : List ℕ) → unique l ≡ true → rises ltb (inOrder (λ k. k) l) ≡ true
-sorted-rises l u = rising-rises (inOrder (λ k. k) l) (rising-sorted l (once-unique l u))
+pub sorted-rises : (l : List ℕ) → unique l ≡ true → rises ltb (inOrder l) ≡ true
+sorted-rises l u = rising-rises (inOrder l) (rising-order l (once-unique l u))
 
 module _ (c : Contents) (keeps : Bool) (order groups radios : List ℕ) (state : ℕ) (w : Carries c keeps order groups radios state) where
   abbrev new : Group
@@ -43,18 +43,18 @@ module _ (c : Contents) (keeps : Bool) (order groups radios : List ℕ) (state :
 
   -- ---- the order of the keys makes no difference ----
 
-  made-sorted : madeGroups keeps new (inOrder (λ k. k) groups) (ledgerOf c .groups) ≡ madeGroups keeps new groups (ledgerOf c .groups)
-  made-sorted = puts-same numbers-linear made (ledgerOf c .groups) (inOrder (λ k. k) groups) groups (groups-rise c (w .sound)) (λ k. mem-sorted k groups)
+  made-sorted : madeGroups keeps new (inOrder groups) (ledgerOf c .groups) ≡ madeGroups keeps new groups (ledgerOf c .groups)
+  made-sorted = puts-same numbers-linear made (ledgerOf c .groups) (inOrder groups) groups (groups-rise c (w .sound)) (λ k. mem-order k groups)
 
-  set-sorted : setPairs state (inOrder (λ k. k) radios) (inOrder (λ k. k) groups) (ledgerOf c .pairs) ≡ setPairs state radios groups (ledgerOf c .pairs)
-  set-sorted = puts-same pairs-linear (λ k. fresh state) (ledgerOf c .pairs) (product (inOrder (λ k. k) groups) (inOrder (λ k. k) radios))
+  set-sorted : setPairs state (inOrder radios) (inOrder groups) (ledgerOf c .pairs) ≡ setPairs state radios groups (ledgerOf c .pairs)
+  set-sorted = puts-same pairs-linear (λ k. fresh state) (ledgerOf c .pairs) (product (inOrder groups) (inOrder radios))
       (product groups radios) (pairs-rise c (w .sound)) same
     where
-      same : (k : Pair) → Rattle.rules.specs.Lists.any (samePair k) (product (inOrder (λ k. k) groups) (inOrder (λ k. k) radios))
+      same : (k : Pair) → Rattle.rules.specs.Lists.any (samePair k) (product (inOrder groups) (inOrder radios))
           ≡ Rattle.rules.specs.Lists.any (samePair k) (product groups radios)
       same k =
-          any-product (k .0) (k .1) (inOrder (λ k. k) groups) (inOrder (λ k. k) radios)
-          ∙ (λ i. mem-sorted (k .0) groups i && mem-sorted (k .1) radios i) ∙ sym (any-product (k .0) (k .1) groups radios)
+          any-product (k .0) (k .1) (inOrder groups) (inOrder radios)
+          ∙ (λ i. mem-order (k .0) groups i && mem-order (k .1) radios i) ∙ sym (any-product (k .0) (k .1) groups radios)
 
   -- ---- the totals ----
 
@@ -72,7 +72,7 @@ module _ (c : Contents) (keeps : Bool) (order groups radios : List ℕ) (state :
 
   -- ---- what the walks are given, and what they leave; these and those: the groups and the radios, rising ----
 
-  module _ (these those : List ℕ) (a : these ≡ inOrder (λ k. k) groups) (b : those ≡ inOrder (λ k. k) radios) (n m : ℕ)
+  module _ (these those : List ℕ) (a : these ≡ inOrder groups) (b : those ≡ inOrder radios) (n m : ℕ)
       (e : n ≡ newGroups (ledgerOf c .groups) groups) (d : m ≡ newPairs (ledgerOf c .pairs) radios groups) where
     made-same : madeGroups keeps new these (ledgerOf c .groups) ≡ madeGroups keeps new groups (ledgerOf c .groups)
     made-same = ap (λ (z : List ℕ). madeGroups keeps new z (ledgerOf c .groups)) a ∙ made-sorted

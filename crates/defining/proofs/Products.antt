@@ -62,7 +62,7 @@ some-radios n zero i q = absurd (omega arith)
 some-radios n (suc m) i q = omega arith
 
 -- the pair at place j: so many radios a group
-pub product-at : (gs rs : List ℕ) (j : ℕ) → j < length gs * length rs
+product-at : (gs rs : List ℕ) (j : ℕ) → j < length gs * length rs
     → _≡_ {A = Pair} (getD (product gs rs) j (0, 0)) (getD gs (j / length rs) 0, getD rs (j % length rs) 0)
 product-at [] rs j h = absurd (omega arith)
 product-at (g ∷ gs) rs j h = split (ltb j (length rs))

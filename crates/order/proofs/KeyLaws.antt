@@ -46,6 +46,6 @@ module _ (key : List ℕ) (count c : ℕ) (e : c ≡ length (take count key)) wh
   pub cut-length : c ≡ length (take c key)
   cut-length = e ∙ ap length (sym cut-same)
 
-  pub cut-sorted : (n : ℕ) (out : List ℕ) → out ≡ onto (inOrder (λ k. k) (take c key)) (replicate n 0)
-      → (c ≡ length (inOrder (λ k. k) (take count key))) × (out ≡ placed n (inOrder (λ k. k) (take count key)))
-  cut-sorted n out o = (e ∙ sym (length-order (λ k. k) (take count key)), o ∙ ap (λ (l : List ℕ). placed n (inOrder (λ k. k) l)) cut-same)
+  pub cut-sorted : (n : ℕ) (out : List ℕ) → out ≡ onto (inOrder (take c key)) (replicate n 0)
+      → (c ≡ length (inOrder (take count key))) × (out ≡ placed n (inOrder (take count key)))
+  cut-sorted n out o = (e ∙ sym (length-order (take count key)), o ∙ ap (λ (l : List ℕ). placed n (inOrder l)) cut-same)

@@ -145,7 +145,7 @@ pub fn radio_at(radios: Radios, i: usize) -> RadioKey
 
 // The groups of a list, rising.
 pub fn groups_rising(groups: Groups) -> Groups
-    ensures { λ r. ⌜ r ≡ groupsAs (inOrder (λ k. k) (groupKeys groups)) ⌝ }
+    ensures { λ r. ⌜ r ≡ groupsAs (inOrder (groupKeys groups)) ⌝ }
 {
     let named = groups.key;
     let count = group_count(groups);
@@ -156,7 +156,7 @@ pub fn groups_rising(groups: Groups) -> Groups
 
 // The radios of a list, rising.
 pub fn radios_rising(radios: Radios) -> Radios
-    ensures { λ r. ⌜ r ≡ radiosAs (inOrder (λ k. k) (radioKeys radios)) ⌝ }
+    ensures { λ r. ⌜ r ≡ radiosAs (inOrder (radioKeys radios)) ⌝ }
 {
     let named = radios.key;
     let count = radio_count(radios);
@@ -187,7 +187,7 @@ fn with_asker(asker: RadioKey, listed: &[u64]) -> Owners
 
 // Owners, rising.
 fn owners_rising(owners: Owners) -> Owners
-    ensures { λ r. ⌜ r ≡ ownersAs (inOrder (λ k. k) (ownersHeld owners)) ⌝ }
+    ensures { λ r. ⌜ r ≡ ownersAs (inOrder (ownersHeld owners)) ⌝ }
 {
     let given = owners.key;
     let count = lesser(owners.count, MAX_OWNERS);

@@ -84,7 +84,7 @@ rising-lawful = record {
   holds = mem-rising;
   stays = λ l. rising-rises (rising l) (rising-rising l);
   single = λ l h. unique-once l (once-rising l (rises-rising l h));
-  counted = λ l. length-order (λ n. n) (once l);
+  counted = λ l. length-order (once l);
 }
 
 pub by-number : Lawful byNumber

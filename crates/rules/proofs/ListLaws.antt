@@ -1,13 +1,13 @@
 -- Lists of numbers: membership, rising lists, lists without repeats, sums.
 use Prim.Native.Nat.{ℕ, suc, _≤_, _<_}
-use mathlib.Core.Path.{_≡_, refl, sym, _∙_, ap, subst}
+use mathlib.Core.Path.{_≡_, refl, sym, _∙_, ap}
 use mathlib.Core.Bool.{Bool, true, false, not, _&&_, _||_}
-use mathlib.Core.List.{List, [], _∷_, _++_, map, map-id}
+use mathlib.Core.List.{List, [], _∷_, _++_}
 use lib.Dec.{eqb, ltb}
 use lib.ListN.{length}
 use native.Mathlib.Omega.{arith}
 use borrow.Author.Tests.{eqb-true, eqb-false, ltb-true, ltb-false, eq-eqb, ne-eqb, not-true}
-use Rattle.rules.specs.Lists.{any, all, unique, keep, mem, once, insertBy, inOrder, rising, Above, Rising, sum}
+use Rattle.rules.specs.Lists.{any, all, unique, keep, mem, once, insert, inOrder, rising, Above, Rising, sum}
 use Rattle.rules.proofs.Tests.{split, clash, and-false, and-true, and-in, and-l, and-r, or-assoc, or-swap, or-l, or-r}
 
 pub mem-keep : (p : ℕ → Bool) (x : ℕ) (l : List ℕ) → mem x (keep p l) ≡ (mem x l && p x)
@@ -72,7 +72,7 @@ once-same (x ∷ l) o = cc (once-same l (o .1), keep-other x l (o .0))
 
 -- ---- rising lists ----
 
-pub above-trans : (x y : ℕ) (l : List ℕ) → x < y → Above y l → Above x l
+above-trans : (x y : ℕ) (l : List ℕ) → x < y → Above y l → Above x l
 above-trans x y [] h a = tt
 above-trans x y (z ∷ l) h a = (omega arith, above-trans x y l h (a .1))
 
@@ -88,80 +88,56 @@ rising-keep p (y ∷ l) r = split (p y)
     (λ e. rw e (above-keep p y l (r .0), rising-keep p l (r .1)))
     (λ e. rw e (rising-keep p l (r .1)))
 
-module _ {A : Type 0} (f : A → ℕ) where
-  above-insert : (y : ℕ) (x : A) (l : List A) → y < f x → Above y (map f l) → Above y (map f (insertBy f x l))
-  above-insert y x [] h a = (h, tt)
-  above-insert y x (z ∷ l) h a = split (ltb (f x) (f z))
-      (λ e. rw e (h, a))
-      (λ e. rw e (a .0, above-insert y x l h (a .1)))
+above-insert : (y x : ℕ) (l : List ℕ) → y < x → Above y l → Above y (insert x l)
+above-insert y x [] h a = (h, tt)
+above-insert y x (z ∷ l) h a = split (ltb x z)
+    (λ e. rw e (h, a))
+    (λ e. rw e (a .0, above-insert y x l h (a .1)))
 
-  rising-insert : (x : A) (l : List A) → mem (f x) (map f l) ≡ false → Rising (map f l) → Rising (map f (insertBy f x l))
-  rising-insert x [] n r = (tt, tt)
-  rising-insert x (z ∷ l) n r = split (ltb (f x) (f z))
-      (λ e. let h = ltb-true (f x) (f z) e in rw e ((h, above-trans (f x) (f z) (map f l) h (r .0)), r))
-      (λ e. split (eqb (f x) (f z))
-      (λ q. clash (cc))
-      (λ q. rw e (
-        above-insert (f z) x l (below (f x) (f z) (ltb-false (f x) (f z) e) (eqb-false (f x) (f z) q)) (r .0),
-        rising-insert x l (cc) (r .1),
-      )))
-    where
-      below : (x z : ℕ) → z ≤ x → (x ≡ z → ⊥) → z < x
-      below x z h n = omega arith
+rising-insert : (x : ℕ) (l : List ℕ) → mem x l ≡ false → Rising l → Rising (insert x l)
+rising-insert x [] n r = (tt, tt)
+rising-insert x (z ∷ l) n r = split (ltb x z)
+    (λ e. let h = ltb-true x z e in rw e ((h, above-trans x z l h (r .0)), r))
+    (λ e. split (eqb x z)
+    (λ q. clash (cc))
+    (λ q. rw e (above-insert z x l (below x z (ltb-false x z e) (eqb-false x z q)) (r .0), rising-insert x l (cc) (r .1))))
+  where
+    below : (x z : ℕ) → z ≤ x → (x ≡ z → ⊥) → z < x
+    below x z h n = omega arith
 
-  mem-insert : (n : ℕ) (x : A) (l : List A) → mem n (map f (insertBy f x l)) ≡ (eqb n (f x) || mem n (map f l))
-  mem-insert n x [] = refl
-  mem-insert n x (z ∷ l) = split (ltb (f x) (f z))
-      (λ e. cc)
-      (λ e. cc (mem-insert n x l, or-swap (eqb n (f z)) (eqb n (f x)) (mem n (map f l))))
+mem-insert : (n x : ℕ) (l : List ℕ) → mem n (insert x l) ≡ (eqb n x || mem n l)
+mem-insert n x [] = refl
+mem-insert n x (z ∷ l) = split (ltb x z)
+    (λ e. cc)
+    (λ e. cc (mem-insert n x l, or-swap (eqb n z) (eqb n x) (mem n l)))
 
-  pub length-insert : (x : A) (l : List A) → length (insertBy f x l) ≡ suc (length l)
-  length-insert x [] = refl
-  length-insert x (z ∷ l) = split (ltb (f x) (f z)) (λ e. cc) (λ e. cc (length-insert x l))
+pub length-insert : (x : ℕ) (l : List ℕ) → length (insert x l) ≡ suc (length l)
+length-insert x [] = refl
+length-insert x (z ∷ l) = split (ltb x z) (λ e. cc) (λ e. cc (length-insert x l))
 
-  pub mem-order : (n : ℕ) (l : List A) → mem n (map f (inOrder f l)) ≡ mem n (map f l)
-  mem-order n [] = refl
-  mem-order n (x ∷ l) = mem-insert n x (inOrder f l) ∙ ap (λ (b : Bool). eqb n (f x) || b) (mem-order n l)
+-- numbers put in order are the same numbers, as many
+pub mem-order : (n : ℕ) (l : List ℕ) → mem n (inOrder l) ≡ mem n l
+mem-order n [] = refl
+mem-order n (x ∷ l) = mem-insert n x (inOrder l) ∙ ap (λ (b : Bool). eqb n x || b) (mem-order n l)
 
-  pub length-order : (l : List A) → length (inOrder f l) ≡ length l
-  length-order [] = refl
-  length-order (x ∷ l) = length-insert x (inOrder f l) ∙ ap suc (length-order l)
-
-  -- where no number stands twice, each is below all that follow
-  pub rising-order : (l : List A) → Once (map f l) → Rising (map f (inOrder f l))
-  rising-order [] o = tt
-  rising-order (x ∷ l) o = rising-insert x (inOrder f l) (mem-order (f x) l ∙ o .0) (rising-order l (o .1))
-
-module _ {A B : Type 0} (h : A → B) (f : B → ℕ) where
-  pub map-insert : (x : A) (l : List A) → map h (insertBy (λ a. f (h a)) x l) ≡ insertBy f (h x) (map h l)
-  map-insert x [] = refl
-  map-insert x (y ∷ l) = split (ltb (f (h x)) (f (h y))) (λ e. cc) (λ e. cc (map-insert x l))
-
-  pub map-order : (l : List A) → map h (inOrder (λ a. f (h a)) l) ≡ inOrder f (map h l)
-  map-order [] = refl
-  map-order (x ∷ l) = map-insert x (inOrder (λ a. f (h a)) l) ∙ ap (insertBy f (h x)) (map-order l)
-
--- a number that is not yet there is put in
-pub rising-new : (x : ℕ) (l : List ℕ) → mem x l ≡ false → rising (x ∷ l) ≡ insertBy (λ n. n) x (rising l)
-rising-new x l e = ap (λ (k : List ℕ). insertBy (λ n. n) x (inOrder (λ n. n) k)) (keep-other x (once l) (mem-once x l ∙ e))
-
--- numbers put in order are the same numbers
-pub mem-sorted : (z : ℕ) (l : List ℕ) → mem z (inOrder (λ n. n) l) ≡ mem z l
-mem-sorted z l = ap (mem z) (sym (map-id (inOrder (λ n. n) l))) ∙ mem-order (λ n. n) z l ∙ ap (mem z) (map-id l)
-
-pub mem-rising : (z : ℕ) (l : List ℕ) → mem z (rising l) ≡ mem z l
-mem-rising z l = mem-sorted z (once l) ∙ mem-once z l
+pub length-order : (l : List ℕ) → length (inOrder l) ≡ length l
+length-order [] = refl
+length-order (x ∷ l) = length-insert x (inOrder l) ∙ ap suc (length-order l)
 
 -- and where none stands twice they rise
-pub rising-sorted : (l : List ℕ) → Once l → Rising (inOrder (λ n. n) l)
-rising-sorted l o = subst Rising (map-id (inOrder (λ n. n) l)) (rising-order (λ n. n) l (subst Once (sym (map-id l)) o))
+pub rising-order : (l : List ℕ) → Once l → Rising (inOrder l)
+rising-order [] o = tt
+rising-order (x ∷ l) o = rising-insert x (inOrder l) (mem-order x l ∙ o .0) (rising-order l (o .1))
+
+pub mem-rising : (z : ℕ) (l : List ℕ) → mem z (rising l) ≡ mem z l
+mem-rising z l = mem-order z (once l) ∙ mem-once z l
 
 pub rising-rising : (l : List ℕ) → Rising (rising l)
-rising-rising l = rising-sorted (once l) (once-once l)
+rising-rising l = rising-order (once l) (once-once l)
 
 -- each once, rising, is that of each once
 pub rising-once : (l : List ℕ) → rising (once l) ≡ rising l
-rising-once l = ap (inOrder (λ n. n)) (once-same (once l) (once-once l))
+rising-once l = ap inOrder (once-same (once l) (once-once l))
 
 above-mem : (x : ℕ) (l : List ℕ) → Above x l → mem x l ≡ false
 above-mem x [] a = refl
@@ -202,7 +178,7 @@ pub rising-same : (l : List ℕ) → Rising l → rising l ≡ l
 rising-same l r = same-members (rising l) l (rising-rising l) r (λ x. mem-rising x l)
 
 pub length-rising : (l : List ℕ) → Once l → length (rising l) ≡ length l
-length-rising l o = length-order (λ n. n) (once l) ∙ ap length (once-same l o)
+length-rising l o = length-order (once l) ∙ ap length (once-same l o)
 
 pub once-rising : (l : List ℕ) → Rising l → Once l
 once-rising [] r = tt

@@ -71,7 +71,7 @@ over-gathered g x (e ∷ l) q h = split (eqb g (e .0 .0))
     (λ a. rw a (above-radio (x .0) (e .0) (sym (eqb-true g (x .0 .0) q) ∙ eqb-true g (e .0 .0) a) (h .0), over-gathered g x l q (h .1)))
     (λ a. rw a (over-gathered g x l q (h .1)))
 
-pub gathered-rising : (g : ℕ) (l : List (Pair × Mark)) → Climbs (lower belowPair) l → Rising (entryRadios (gathered g l))
+gathered-rising : (g : ℕ) (l : List (Pair × Mark)) → Climbs (lower belowPair) l → Rising (entryRadios (gathered g l))
 gathered-rising g [] c = tt
 gathered-rising g (e ∷ l) c = split (eqb g (e .0 .0))
     (λ a. rw a (over-gathered g e l a (c .0), gathered-rising g l (c .1)))

@@ -51,7 +51,7 @@ climbs-rising (x ∷ l) c = (above l (c .0), climbs-rising l (c .1))
     above [] o = tt
     above (y ∷ l) o = (ltb-true x y (o .0), above l (o .1))
 
-pub rising-climbs : (l : List ℕ) → Rising l → Climbs ltb l
+rising-climbs : (l : List ℕ) → Rising l → Climbs ltb l
 rising-climbs [] r = tt
 rising-climbs (x ∷ l) r = (over l (r .0), rising-climbs l (r .1))
   where

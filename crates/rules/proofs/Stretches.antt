@@ -3,14 +3,11 @@ use Prim.Native.Nat.{ℕ, _≤_, _<_}
 use mathlib.Core.Path.{_≡_, refl, sym, _∙_, ap}
 use mathlib.Core.Bool.{Bool, true, false, not, _&&_}
 use mathlib.Core.List.{List, [], _∷_, _++_, map}
-use mathlib.Core.Option.{some}
-use lib.Dec.{eqb, ltb, leb}
-use lib.ListN.{length}
+use lib.Dec.{eqb, ltb}
 use native.Mathlib.Omega.{arith}
-use borrow.Author.Tests.{eqb-true, eqb-false, ltb-true, ne-eqb}
+use borrow.Author.Tests.{eqb-true, ltb-true, ne-eqb}
 use Rattle.rules.specs.Lists.{all, keep, join, mem, present, Above, Rising}
 use Rattle.rules.specs.Number.{wideKey}
-use Rattle.rules.specs.Parameters.{badParameters}
 use Rattle.rules.specs.Mark.{Mark}
 use Rattle.rules.specs.Ledger.{Group, Pair, Ledger, group}
 use Rattle.rules.specs.ByNumber.{lower, belowPair, byNumber}
@@ -18,7 +15,7 @@ use Rattle.rules.specs.Stretches.{stretch, groupNumbers, InStretches}
 use Rattle.rules.specs.Written.{goodMark, goodPair, written}
 use Rattle.rules.specs.History.{History}
 use Rattle.rules.specs.Run.{run}
-use Rattle.rules.proofs.Tests.{split, clash, and-in, and-l, and-r, not-in}
+use Rattle.rules.proofs.Tests.{split, clash, and-in, and-l, and-r}
 use Rattle.rules.proofs.ListLaws.{eqb-flip}
 use Rattle.rules.proofs.EntryLaws.{mem-keys}
 use Rattle.rules.proofs.Rises.{Over, Climbs, climbs-rising, rises-rising}

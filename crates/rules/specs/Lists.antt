@@ -35,16 +35,6 @@ module _ {A : Type 0} where
   join f [] = []
   join f (x ∷ l) = f x ++ join f l
 
-  -- put before the first whose number by f is above its own
-  abbrev pub insertBy : (A → ℕ) → A → List A → List A
-  insertBy f x [] = x ∷ []
-  insertBy f x (y ∷ l) = cond (ltb (f x) (f y)) (x ∷ y ∷ l) (y ∷ insertBy f x l)
-
-  -- in rising order of their numbers: put in one by one, from the last
-  abbrev pub inOrder : (A → ℕ) → List A → List A
-  inOrder f [] = []
-  inOrder f (x ∷ l) = insertBy f x (inOrder f l)
-
 module _ {A : Type 0} (below : A → A → Bool) where
   -- x is below the first of the list
   abbrev pub ahead : A → List A → Bool
@@ -70,9 +60,19 @@ abbrev pub once : List ℕ → List ℕ
 once [] = []
 once (x ∷ l) = x ∷ keep (λ y. not (eqb x y)) (once l)
 
+-- put before the first that is above it
+abbrev pub insert : ℕ → List ℕ → List ℕ
+insert x [] = x ∷ []
+insert x (y ∷ l) = cond (ltb x y) (x ∷ y ∷ l) (y ∷ insert x l)
+
+-- in rising order: put in one by one, from the last
+abbrev pub inOrder : List ℕ → List ℕ
+inOrder [] = []
+inOrder (x ∷ l) = insert x (inOrder l)
+
 -- the numbers of a list, each once, rising
 abbrev pub rising : List ℕ → List ℕ
-rising l = inOrder (λ n. n) (once l)
+rising l = inOrder (once l)
 
 -- x is below all of the list
 abbrev pub Above : ℕ → List ℕ → Type 0

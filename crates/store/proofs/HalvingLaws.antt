@@ -34,7 +34,7 @@ module _ (passes : ℕ → Bool) where
     turn-before p = rw (some-left, p)
 
   -- as many turns as places are enough
-  pub halving-enough : (turns turns′ from left : ℕ) → left ≤ turns → left ≤ turns′ → halving passes turns from left ≡ halving passes turns′ from left
+  halving-enough : (turns turns′ from left : ℕ) → left ≤ turns → left ≤ turns′ → halving passes turns from left ≡ halving passes turns′ from left
   halving-enough zero turns′ from left h h′ = let e : left ≡ 0 = omega arith in rw e (halving-none zero from ∙ sym (halving-none turns′ from))
   halving-enough (suc turns) zero from left h h′ = let e : left ≡ 0 = omega arith in rw e (halving-none (suc turns) from ∙ sym (halving-none zero from))
   halving-enough (suc turns) (suc turns′) from left h h′ = split (ltb 0 left)
@@ -49,13 +49,13 @@ module _ (passes : ℕ → Bool) where
 
   -- the turns of a loop, with as many turns left as places
   module _ (from left : ℕ) (h : 0 < left) where
-    pub halving-behind : passes (from + left / 2) ≡ true
+    halving-behind : passes (from + left / 2) ≡ true
         → halving passes left from left ≡ halving passes (left - (left / 2 + 1)) (from + (left / 2 + 1)) (left - (left / 2 + 1))
     halving-behind p =
         halving-enough left (suc left) from left (omega arith) (omega arith) ∙ turn-behind left from left h p
         ∙ halving-enough left (left - (left / 2 + 1)) (from + (left / 2 + 1)) (left - (left / 2 + 1)) (omega arith) (omega arith)
 
-    pub halving-before : passes (from + left / 2) ≡ false → halving passes left from left ≡ halving passes (left / 2) from (left / 2)
+    halving-before : passes (from + left / 2) ≡ false → halving passes left from left ≡ halving passes (left / 2) from (left / 2)
     halving-before p =
         halving-enough left (suc left) from left (omega arith) (omega arith) ∙ turn-before left from left h p
         ∙ halving-enough left (left / 2) from (left / 2) (omega arith) (omega arith)
@@ -87,7 +87,7 @@ module _ {A : Type 0} where
   element-at (x ∷ l) zero d h = refl
   element-at (x ∷ l) (suc i) d h = element-at l i d (omega arith)
 
-  pub element-past : (l : List A) (i : ℕ) → length l ≤ i → elementAt i l ≡ none
+  element-past : (l : List A) (i : ℕ) → length l ≤ i → elementAt i l ≡ none
   element-past [] i h = refl
   element-past (x ∷ l) zero h = absurd (omega arith)
   element-past (x ∷ l) (suc i) h = element-past l i (omega arith)

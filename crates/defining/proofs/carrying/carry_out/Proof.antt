@@ -17,11 +17,11 @@ abbrev found : tie.Start → Contents
 found s = contents (s .args .head .now) (s .args .groups .now) (s .args .pairs .now)
 
 -- the groups, rising, and the radios
-these : (c : tie.After-groups-rising) → groupKeys (c .groups-rising .result) ≡ inOrder (λ k. k) (groupKeys (c .before .before .before .before .before .before .before .before .args .named))
-these c = ap groupKeys (c .groups-rising .ensures) ∙ group-keys (inOrder (λ k. k) (groupKeys (c .before .before .before .before .before .before .before .before .args .named)))
+these : (c : tie.After-groups-rising) → groupKeys (c .groups-rising .result) ≡ inOrder (groupKeys (c .before .before .before .before .before .before .before .before .args .named))
+these c = ap groupKeys (c .groups-rising .ensures) ∙ group-keys (inOrder (groupKeys (c .before .before .before .before .before .before .before .before .args .named)))
 
-those : (c : tie.After-radios-rising) → radioKeys (c .radios-rising .result) ≡ inOrder (λ k. k) (radioKeys (c .before .before .before .before .before .before .before .before .before .before .before .before .before .args .radios))
-those c = ap radioKeys (c .radios-rising .ensures) ∙ radio-keys (inOrder (λ k. k) (radioKeys (c .before .before .before .before .before .before .before .before .before .before .before .before .before .args .radios)))
+those : (c : tie.After-radios-rising) → radioKeys (c .radios-rising .result) ≡ inOrder (radioKeys (c .before .before .before .before .before .before .before .before .before .before .before .before .before .args .radios))
+those c = ap radioKeys (c .radios-rising .ensures) ∙ radio-keys (inOrder (radioKeys (c .before .before .before .before .before .before .before .before .before .before .before .before .before .args .radios)))
 
 slice-read-group-count : tie.Need-slice-read-group-count
 slice-read-group-count c = search needs
@@ -48,7 +48,7 @@ make-groups-requires : tie.Need-make-groups-requires
 make-groups-requires c κs =
     let s = c .before .before .before .before .before .before .before .before .before in
     let a = s .args in
-    let r = inOrder (λ k. k) (radioKeys (a .radios)) in (
+    let r = inOrder (radioKeys (a .radios)) in (
       groups-taken (found s) (a .keeps) (a .order) (groupKeys (a .named)) (radioKeys (a .radios)) (a .state) (s .pre) _ r (these (c .before)) refl _ _
           (c .before .before .before .before .new-groups .ensures .0) (c .before .before .new-pairs .ensures .0),
       s .pre .fine,
