@@ -13,6 +13,6 @@ if ! command -v $cc >/dev/null || ! command -v qemu-x86_64 >/dev/null; then
 fi
 flags="-std=gnu11 -O2 -static -Wall -Wextra"
 for level in 0 1 2 9; do $cc $flags -DLEVEL=$level "$here/echo.c" -o "$out/echo$level"; done
-$cc $flags -DSORTED=0 "$here/ledger.c" "$here/bench_ledger.c" -o "$out/bench_ledger_a"
 $cc $flags -DSORTED=1 "$here/ledger.c" "$here/bench_ledger.c" -o "$out/bench_ledger_b"
+$cc $flags -DSORTED=1 -DFORM=1 "$here/ledger.c" "$here/bench_ledger.c" -o "$out/bench_ledger_f"
 gcc -O2 -Wall -shared -fPIC "$here/icount.c" -o "$out/icount.so"

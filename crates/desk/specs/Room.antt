@@ -1,10 +1,8 @@
 -- What the contracts of `desk` say of its buffers.
 use Prim.Native.Nat.{ℕ, _≤_}
-use Rattle.desk.specs.declared.Input.{Input}
-use Rattle.desk.specs.declared.Input.the-variants.{Held, Ended, Failed}
+use Rattle.desk.specs.declared.input.Input.{Input}
 
--- no more than that many bytes of a line are held
-abbrev pub HeldIn : ℕ → Input → Type 0
-HeldIn most (Held count) = count ≤ most
-HeldIn most Ended = Unit {0}
-HeldIn most Failed = Unit {0}
+-- what is held lies within a line of that size, and what was read within as many bytes
+pub record Within (line bytes : ℕ) (input : Input) : Type 0 where
+  pub holds : input .held ≤ line
+  pub reads : input .end ≤ bytes

@@ -1,18 +1,26 @@
 // The orders: a line is read, given to the ledger, and answered. A line that is no order is refused as bad and changes nothing.
+use crate::memory::bad_line;
+use crate::memory::letter;
+use crate::memory::set_word;
 use frame::Kind;
 use frame::Reading;
+use frame::Record;
 use frame::Verdict;
 use house::Line;
 use ledger::ENTRY_WORDS;
 use ledger::GROUP_WORDS;
 use ledger::Gtsi;
+use ledger::HEAD_WORDS;
 use ledger::Itsi;
 use ledger::Listed;
+use ledger::MAX_GROUPS;
 use ledger::MAX_PAIRS;
+use ledger::Members;
 use ledger::Numbers;
 use ledger::ORDER_WORDS;
 use ledger::PAIR_WORDS;
 use ledger::Reply;
+use ledger::Sent;
 use refusal::Refusal;
 use rows::lesser;
 use text::put_listed;
@@ -28,13 +36,15 @@ use words::room;
 use words::series;
 use words::series_or_none;
 use words::word;
-ghost use mathlib.Core.Path.{_≡_};
-ghost use Prim.Native.Nat.{_+_, _≤_};
+ghost use Prim.Native.Nat.{_≤_};
 ghost use lib.ListN.{length};
 ghost use Rattle.text.specs.Put.{longest};
 
 // The most bytes of a frame.
 const FRAME_BYTES: usize = 213;
+
+// The bytes of the longest reply and its newline.
+pub const REPLY: usize = 32770;
 
 // What a DEFINE's heading says: the bit count; or the text is no DEFINE.
 enum Heading {
@@ -42,34 +52,75 @@ enum Heading {
     Other,
 }
 
-// Room for the most orders.
-fn order_places() -> [[u64; ORDER_WORDS]; MAX_PAIRS]
-    ensures { λ r. ⌜ 2048 ≡ length r ⌝ }
-{
-    [[0; ORDER_WORDS]; MAX_PAIRS]
+// What a D holds: nothing, as its line is bad; a frame that is refused at a bit; or a define.
+enum Content {
+    Bad,
+    Refused(Refusal, usize),
+    Define,
 }
 
-// Room for the most radios.
-fn radio_places() -> [[u64; ENTRY_WORDS]; MAX_PAIRS]
-    ensures { λ r. ⌜ 2048 ≡ length r ⌝ }
+// What an order came to: a reply, orders that go out, or a frame refused at a bit.
+enum Outcome {
+    Replied(Reply),
+    Sends(Sent),
+    Refused(Refusal, usize),
+}
+
+// What a D says: asker, room and record.
+struct Definition {
+    content: Content,
+    asker: u64,
+    size: u64,
+    values: Record,
+}
+
+// What an X says: asker, room, groups, delete, deassign, radios; and the place behind them.
+struct Deletion {
+    asker: u64,
+    size: u64,
+    named: Numbers,
+    remove: bool,
+    deassign: bool,
+    radios: Listed,
+    next: usize,
+}
+
+// Two numbers that a line begins with, a radio or asker and a group, and the place behind them.
+struct Two {
+    first: u64,
+    group: u64,
+    next: usize,
+}
+
+// The places of a room, cut to those that are lent; no room has more.
+fn places(size: u64, lent: usize) -> usize
+    ensures { λ r. ⌜ r ≤ lent ⌝ }
 {
-    [[0; ENTRY_WORDS]; MAX_PAIRS]
+    lesser(size as usize, lent)
+}
+
+// The two numbers behind a line's letter.
+fn read_two(line: &[u8]) -> Two {
+    let first = number(line, 1);
+    let group = number(line, first.next);
+    Two {
+        first: first.value,
+        group: group.value,
+        next: group.next,
+    }
 }
 
 // E: an empty ledger.
 fn clear(
     line: &[u8],
-    head: &mut [u64],
-    groups: &[[u64; GROUP_WORDS]],
-    pairs: &[[u64; PAIR_WORDS]],
-    out: &mut [u8],
-) -> usize
-    ensures { λ r. ⌜ r ≤ longest ⌝ }
-{
+    head: &mut [u64; HEAD_WORDS],
+    groups: &[[u64; GROUP_WORDS]; MAX_GROUPS],
+    pairs: &[[u64; PAIR_WORDS]; MAX_PAIRS],
+) -> Reply {
     if line.len() != 1 {
-        return refuse(Refusal::BadLine, out);
+        return bad_line();
     }
-    put_reply(ledger::empty(head, groups, pairs), out)
+    ledger::empty(head, groups, pairs)
 }
 
 // The heading of house text: a frame of another kind is no DEFINE.
@@ -104,158 +155,159 @@ fn read_define(text: &[u8], bits: usize) -> Reading {
     frame::read(Kind::Define, &bytes[..count], bits)
 }
 
-// Defines by a DEFINE in house text, with `rows` as the room for orders.
-fn define_by(
-    text: &[u8],
-    head: &mut [u64],
-    groups: &mut [[u64; GROUP_WORDS]],
-    pairs: &mut [[u64; PAIR_WORDS]],
-    asker: Itsi,
-    rows: &mut [[u64; ORDER_WORDS]],
-    out: &mut [u8],
-) -> usize
-    ensures { λ r. ⌜ r ≤ longest ⌝ }
-{
-    let Heading::Define(bits) = define_heading(text) else {
-        return refuse(Refusal::BadLine, out);
-    };
-    let reading = read_define(text, bits);
-    let verdict = reading.verdict;
-    if let Verdict::Refused(refusal, bit) = verdict {
-        return house::refuse_at(refusal, bit, out);
+// A D whose line is bad.
+fn no_define() -> Definition {
+    let values = frame::blank();
+    Definition {
+        content: Content::Bad,
+        asker: 0,
+        size: 0,
+        values,
     }
-    let values = reading.values;
-    let sent = ledger::define(head, groups, pairs, asker, values, rows);
-    put_sent(sent, rows, out)
+}
+
+// What a D holds whose frame was read.
+fn content_of(verdict: Verdict) -> Content {
+    match verdict {
+        Verdict::Frame => Content::Define,
+        Verdict::Refused(refusal, bit) => Content::Refused(refusal, bit),
+    }
 }
 
 // D: asker, room, house text.
-fn define(
-    line: &[u8],
-    head: &mut [u64],
-    groups: &mut [[u64; GROUP_WORDS]],
-    pairs: &mut [[u64; PAIR_WORDS]],
-    out: &mut [u8],
-) -> usize
-    ensures { λ r. ⌜ r ≤ longest ⌝ }
-{
+fn read_definition(line: &[u8]) -> Definition {
     let asker = number(line, 1);
     let size = room(line, asker.next);
     let from = mark(line, size.next, b' ');
     if line.len() < from {
-        return refuse(Refusal::BadLine, out);
+        return no_define();
     }
-    let count = size.value as usize;
-    let mut rows = order_places();
-    define_by(
-        &line[from..],
-        head,
-        groups,
-        pairs,
-        Itsi(asker.value),
-        &mut rows[..count],
-        out,
-    )
+    let text = &line[from..];
+    let Heading::Define(bits) = define_heading(text) else {
+        return no_define();
+    };
+    let reading = read_define(text, bits);
+    let verdict = reading.verdict;
+    let values = reading.values;
+    Definition {
+        content: content_of(verdict),
+        asker: asker.value,
+        size: size.value,
+        values,
+    }
 }
 
-// Deletes, with `rows` as the room for orders.
-fn delete_by(
-    head: &mut [u64],
-    groups: &mut [[u64; GROUP_WORDS]],
-    pairs: &mut [[u64; PAIR_WORDS]],
-    asker: Itsi,
-    named: Numbers,
-    remove: bool,
-    deassign: bool,
-    radios: Listed,
+// What comes of a D that holds no define.
+fn stopped(content: Content) -> Outcome {
+    if let Content::Refused(refusal, bit) = content {
+        return Outcome::Refused(refusal, bit);
+    }
+    Outcome::Replied(bad_line())
+}
+
+// D: defines, with `rows` as the places for orders.
+fn define(
+    line: &[u8],
+    head: &mut [u64; HEAD_WORDS],
+    groups: &mut [[u64; GROUP_WORDS]; MAX_GROUPS],
+    pairs: &mut [[u64; PAIR_WORDS]; MAX_PAIRS],
     rows: &mut [[u64; ORDER_WORDS]],
-    out: &mut [u8],
-) -> usize
-    ensures { λ r. ⌜ r ≤ longest ⌝ }
-{
-    let sent = ledger::delete(
+) -> Outcome {
+    let order = read_definition(line);
+    let content = order.content;
+    let Content::Define = content else {
+        return stopped(content);
+    };
+    let values = order.values;
+    let count = places(order.size, rows.len());
+    Outcome::Sends(ledger::define(
         head,
         groups,
         pairs,
-        asker,
-        named,
-        remove,
-        deassign,
-        radios,
-        rows,
-    );
-    put_sent(sent, rows, out)
+        Itsi(order.asker),
+        values,
+        &mut rows[..count],
+    ))
 }
 
 // X: asker, room, groups, delete, deassign, radios or none.
-fn delete(
-    line: &[u8],
-    head: &mut [u64],
-    groups: &mut [[u64; GROUP_WORDS]],
-    pairs: &mut [[u64; PAIR_WORDS]],
-    out: &mut [u8],
-) -> usize
-    ensures { λ r. ⌜ r ≤ longest ⌝ }
-{
+fn read_deletion(line: &[u8]) -> Deletion {
     let asker = number(line, 1);
     let size = room(line, asker.next);
     let named = series(line, size.next);
     let remove = choice(line, named.next);
     let deassign = choice(line, remove.next);
     let radios = series_or_none(line, deassign.next);
-    if radios.next != line.len() {
-        return refuse(Refusal::BadLine, out);
+    let groups = named.list;
+    let numbers = groups.numbers;
+    let listed = radios.list;
+    Deletion {
+        asker: asker.value,
+        size: size.value,
+        named: numbers,
+        remove: remove.value == 1,
+        deassign: deassign.value == 1,
+        radios: listed,
+        next: radios.next,
     }
-    let count = size.value as usize;
-    let listed = named.list;
-    let mut rows = order_places();
-    delete_by(
+}
+
+// X: deletes, with `rows` as the places for orders.
+fn delete(
+    line: &[u8],
+    head: &mut [u64; HEAD_WORDS],
+    groups: &mut [[u64; GROUP_WORDS]; MAX_GROUPS],
+    pairs: &mut [[u64; PAIR_WORDS]; MAX_PAIRS],
+    rows: &mut [[u64; ORDER_WORDS]],
+) -> Outcome {
+    let order = read_deletion(line);
+    if order.next != line.len() {
+        return Outcome::Replied(bad_line());
+    }
+    let count = places(order.size, rows.len());
+    let named = order.named;
+    let radios = order.radios;
+    Outcome::Sends(ledger::delete(
         head,
         groups,
         pairs,
-        Itsi(asker.value),
-        listed.numbers,
-        remove.value == 1,
-        deassign.value == 1,
-        radios.list,
+        Itsi(order.asker),
+        named,
+        order.remove,
+        order.deassign,
+        radios,
         &mut rows[..count],
-        out,
-    )
+    ))
 }
 
 // A: radio, group, result.
 fn answer(
     line: &[u8],
-    head: &mut [u64],
-    groups: &[[u64; GROUP_WORDS]],
-    pairs: &mut [[u64; PAIR_WORDS]],
-    out: &mut [u8],
-) -> usize
-    ensures { λ r. ⌜ r ≤ longest ⌝ }
-{
-    let radio = number(line, 1);
-    let group = number(line, radio.next);
-    let result = word(line, group.next, 2);
+    head: &mut [u64; HEAD_WORDS],
+    groups: &[[u64; GROUP_WORDS]; MAX_GROUPS],
+    pairs: &mut [[u64; PAIR_WORDS]; MAX_PAIRS],
+) -> Reply {
+    let two = read_two(line);
+    let result = word(line, two.next, 2);
     if result.next != line.len() {
-        return refuse(Refusal::BadLine, out);
+        return bad_line();
     }
-    let reply = ledger::answer(
+    ledger::answer(
         head,
         groups,
         pairs,
-        Itsi(radio.value),
-        Gtsi(group.value),
+        Itsi(two.first),
+        Gtsi(two.group),
         result.value,
-    );
-    put_reply(reply, out)
+    )
 }
 
 // So many ticks; a refusal ends them.
 fn tick_on(
     count: u64,
-    head: &[u64],
-    groups: &[[u64; GROUP_WORDS]],
-    pairs: &mut [[u64; PAIR_WORDS]],
+    head: &[u64; HEAD_WORDS],
+    groups: &[[u64; GROUP_WORDS]; MAX_GROUPS],
+    pairs: &mut [[u64; PAIR_WORDS]; MAX_PAIRS],
 ) -> Reply {
     let mut left = count;
     while 0 < left {
@@ -271,124 +323,127 @@ fn tick_on(
 // T: how many ticks.
 fn wait(
     line: &[u8],
-    head: &[u64],
-    groups: &[[u64; GROUP_WORDS]],
-    pairs: &mut [[u64; PAIR_WORDS]],
-    out: &mut [u8],
-) -> usize
-    ensures { λ r. ⌜ r ≤ longest ⌝ }
-{
+    head: &[u64; HEAD_WORDS],
+    groups: &[[u64; GROUP_WORDS]; MAX_GROUPS],
+    pairs: &mut [[u64; PAIR_WORDS]; MAX_PAIRS],
+) -> Reply {
     let count = word(line, 1, 4);
     if count.next != line.len() {
-        return refuse(Refusal::BadLine, out);
+        return bad_line();
     }
-    put_reply(tick_on(count.value, head, groups, pairs), out)
+    tick_on(count.value, head, groups, pairs)
 }
 
-// Lists, with `rows` as the room for radios.
-fn list_by(
-    head: &[u64],
-    groups: &[[u64; GROUP_WORDS]],
-    pairs: &[[u64; PAIR_WORDS]],
-    asker: Itsi,
-    group: Gtsi,
-    rows: &mut [[u64; ENTRY_WORDS]],
-    out: &mut [u8],
-) -> usize
-    ensures { λ r. ⌜ r ≤ longest ⌝ }
-{
-    let members = ledger::list(head, groups, pairs, asker, group, rows);
-    put_listed(members, rows, out)
-}
-
-// L: asker, group, room.
+// L: asker, group, room; with `rows` as the places for radios.
 fn list(
     line: &[u8],
-    head: &[u64],
-    groups: &[[u64; GROUP_WORDS]],
-    pairs: &[[u64; PAIR_WORDS]],
-    out: &mut [u8],
-) -> usize
-    ensures { λ r. ⌜ r ≤ longest ⌝ }
-{
-    let asker = number(line, 1);
-    let group = number(line, asker.next);
-    let size = room(line, group.next);
+    head: &[u64; HEAD_WORDS],
+    groups: &[[u64; GROUP_WORDS]; MAX_GROUPS],
+    pairs: &[[u64; PAIR_WORDS]; MAX_PAIRS],
+    rows: &mut [[u64; ENTRY_WORDS]],
+) -> Members {
+    let two = read_two(line);
+    let size = room(line, two.next);
     if size.next != line.len() {
-        return refuse(Refusal::BadLine, out);
+        return Members::Refused(Refusal::BadLine);
     }
-    let count = size.value as usize;
-    let mut rows = radio_places();
-    list_by(
+    let count = places(size.value, rows.len());
+    ledger::list(
         head,
         groups,
         pairs,
-        Itsi(asker.value),
-        Gtsi(group.value),
+        Itsi(two.first),
+        Gtsi(two.group),
         &mut rows[..count],
-        out,
     )
 }
 
 // S: asker, group.
 fn show(
     line: &[u8],
-    head: &[u64],
-    groups: &[[u64; GROUP_WORDS]],
-    pairs: &[[u64; PAIR_WORDS]],
-    out: &mut [u8],
+    head: &[u64; HEAD_WORDS],
+    groups: &[[u64; GROUP_WORDS]; MAX_GROUPS],
+    pairs: &[[u64; PAIR_WORDS]; MAX_PAIRS],
+    out: &mut [u8; REPLY],
 ) -> usize
     ensures { λ r. ⌜ r ≤ longest ⌝ }
 {
-    let asker = number(line, 1);
-    let group = number(line, asker.next);
-    if group.next != line.len() {
+    let two = read_two(line);
+    if two.next != line.len() {
         return refuse(Refusal::BadLine, out);
     }
-    let shown = ledger::show(head, groups, pairs, Itsi(asker.value), Gtsi(group.value));
+    let shown = ledger::show(head, groups, pairs, Itsi(two.first), Gtsi(two.group));
     put_shown(shown, out)
 }
 
-// The letter of an order; 0 in an empty line.
-fn letter(line: &[u8]) -> u8 {
-    if 0 < line.len() { line[0] } else { 0 }
-}
-
-// Carries out the order of a line.
-fn carry_out(
+// Carries out an order that sends nothing.
+fn settle(
     line: &[u8],
-    head: &mut [u64],
-    groups: &mut [[u64; GROUP_WORDS]],
-    pairs: &mut [[u64; PAIR_WORDS]],
-    out: &mut [u8],
-) -> usize
-    ensures { λ r. ⌜ r ≤ longest ⌝ }
-{
-    let first = letter(line);
+    head: &mut [u64; HEAD_WORDS],
+    groups: &mut [[u64; GROUP_WORDS]; MAX_GROUPS],
+    pairs: &mut [[u64; PAIR_WORDS]; MAX_PAIRS],
+) -> Reply {
+    let first = letter(line, 0);
     match first {
-        b'E' => clear(line, head, groups, pairs, out),
-        b'D' => define(line, head, groups, pairs, out),
-        b'X' => delete(line, head, groups, pairs, out),
-        b'A' => answer(line, head, groups, pairs, out),
-        b'T' => wait(line, head, groups, pairs, out),
-        b'L' => list(line, head, groups, pairs, out),
-        b'S' => show(line, head, groups, pairs, out),
-        _ => refuse(Refusal::BadLine, out),
+        b'E' => clear(line, head, groups, pairs),
+        b'A' => answer(line, head, groups, pairs),
+        b'T' => wait(line, head, groups, pairs),
+        b'M' => set_word(line, head, groups, pairs),
+        _ => bad_line(),
     }
 }
 
-// Puts the reply to a line and a newline at the front of `out`, and answers how many bytes they take.
-pub fn reply_to(
+// Carries out an order.
+fn act(
     line: &[u8],
-    head: &mut [u64],
-    groups: &mut [[u64; GROUP_WORDS]],
-    pairs: &mut [[u64; PAIR_WORDS]],
-    out: &mut [u8],
+    head: &mut [u64; HEAD_WORDS],
+    groups: &mut [[u64; GROUP_WORDS]; MAX_GROUPS],
+    pairs: &mut [[u64; PAIR_WORDS]; MAX_PAIRS],
+    orders: &mut [[u64; ORDER_WORDS]; MAX_PAIRS],
+) -> Outcome {
+    let first = letter(line, 0);
+    match first {
+        b'D' => define(line, head, groups, pairs, orders),
+        b'X' => delete(line, head, groups, pairs, orders),
+        _ => Outcome::Replied(settle(line, head, groups, pairs)),
+    }
+}
+
+// The reply to an order.
+fn put_outcome(
+    outcome: Outcome,
+    orders: &[[u64; ORDER_WORDS]; MAX_PAIRS],
+    out: &mut [u8; REPLY],
 ) -> usize
-    requires { ⌜ longest + 1 ≤ length (now out) ⌝ }
-    ensures { λ r. ⌜ r ≤ longest + 1 ⌝ }
+    ensures { λ r. ⌜ r ≤ longest ⌝ }
 {
-    let count = carry_out(line, head, groups, pairs, out);
-    out[count] = b'\n';
-    count + 1
+    match outcome {
+        Outcome::Replied(reply) => put_reply(reply, out),
+        Outcome::Sends(sent) => put_sent(sent, orders, out),
+        Outcome::Refused(refusal, bit) => house::refuse_at(refusal, bit, out),
+    }
+}
+
+// The reply to a line, which is an order or a question, at the front of `out`, and how many bytes it takes; none where the line is not whole.
+pub fn reply_to(
+    whole: bool,
+    line: &[u8],
+    head: &mut [u64; HEAD_WORDS],
+    groups: &mut [[u64; GROUP_WORDS]; MAX_GROUPS],
+    pairs: &mut [[u64; PAIR_WORDS]; MAX_PAIRS],
+    orders: &mut [[u64; ORDER_WORDS]; MAX_PAIRS],
+    radios: &mut [[u64; ENTRY_WORDS]; MAX_PAIRS],
+    out: &mut [u8; REPLY],
+) -> usize
+    ensures { λ r. ⌜ r ≤ longest ⌝ }
+{
+    if !whole {
+        return 0;
+    }
+    let first = letter(line, 0);
+    match first {
+        b'L' => put_listed(list(line, head, groups, pairs, radios), radios, out),
+        b'S' => show(line, head, groups, pairs, out),
+        _ => put_outcome(act(line, head, groups, pairs, orders), orders, out),
+    }
 }

@@ -1,12 +1,10 @@
 -- `desk::orders::tick_on` is safe and ends: the ticks are counted down.
-use mathlib.Core.Path.{_≡_}
-use lib.ListN.{length}
 use borrow.Author.Needs.{needs}
 use Rattle.desk.proofs.orders.tick_on.Statement.{statement}
 use Rattle.desk.proofs.orders.tick_on.Tie as tie
 
 abbrev Inv-loop : tie.InvT-loop
-Inv-loop count head groups pairs₀ left₀ pairs left = length pairs ≡ length pairs₀
+Inv-loop count head groups pairs₀ left₀ pairs left = Unit {0}
 
 abbrev μ-loop : tie.MeasureT-loop
 μ-loop count head groups pairs₀ left₀ pairs left = left
@@ -23,9 +21,6 @@ tick-requires c κs = search needs
 enum-told : tie.Need-enum-told Inv-loop μ-loop
 enum-told c = search needs
 
-same-length : tie.Need-same-length Inv-loop μ-loop
-same-length c = search needs
-
 returns : tie.Need-returns Inv-loop μ-loop
 returns c = search needs
 
@@ -37,9 +32,6 @@ loop-less c = search needs
 
 loop-again : tie.Need-loop-again Inv-loop μ-loop
 loop-again c = search needs
-
-same-length-2 : tie.Need-same-length-2 Inv-loop μ-loop
-same-length-2 c = search needs
 
 returns-2 : tie.Need-returns-2 Inv-loop μ-loop
 returns-2 c = search needs
@@ -54,10 +46,8 @@ tick-on-spec =
     sub-left
     tick-requires
     enum-told
-    same-length
     returns
     enum-told-2
     loop-less
     loop-again
-    same-length-2
     returns-2)
