@@ -16,12 +16,23 @@ use Rattle.defining.proofs.carrying.carry_out.Tie as tie
 abbrev found : tie.Start → Contents
 found s = contents (s .args .head .now) (s .args .groups .now) (s .args .pairs .now)
 
--- the groups, rising, and the radios
-these : (c : tie.After-groups-rising) → groupKeys (c .groups-rising .result) ≡ inOrder (groupKeys (c .before .before .before .before .before .before .before .before .args .named))
-these c = ap groupKeys (c .groups-rising .ensures) ∙ group-keys (inOrder (groupKeys (c .before .before .before .before .before .before .before .before .args .named)))
+-- the entry, seen from where the groups rise, and that place, seen from where the radios rise too
+abbrev entry : tie.After-groups-rising → tie.Start
+entry c = c .before .before .before .before .before .before .before .before
 
-those : (c : tie.After-radios-rising) → radioKeys (c .radios-rising .result) ≡ inOrder (radioKeys (c .before .before .before .before .before .before .before .before .before .before .before .before .before .args .radios))
-those c = ap radioKeys (c .radios-rising .ensures) ∙ radio-keys (inOrder (radioKeys (c .before .before .before .before .before .before .before .before .before .before .before .before .before .args .radios)))
+abbrev rising : tie.After-radios-rising → tie.After-groups-rising
+rising c = c .before .before .before .before .before
+
+-- the named groups have room for ten
+ten : (s : tie.Start) → length (s .args .named .key) ≡ 10
+ten s = search needs
+
+-- the groups, rising, and the radios
+these : (c : tie.After-groups-rising) → groupKeys (c .groups-rising .result) ≡ inOrder (groupKeys (entry c .args .named))
+these c = ap groupKeys (c .groups-rising .ensures) ∙ group-keys (inOrder (groupKeys (entry c .args .named)))
+
+those : (c : tie.After-radios-rising) → radioKeys (c .radios-rising .result) ≡ inOrder (radioKeys (entry (rising c) .args .radios))
+those c = ap radioKeys (c .radios-rising .ensures) ∙ radio-keys (inOrder (radioKeys (entry (rising c) .args .radios)))
 
 slice-read-group-count : tie.Need-slice-read-group-count
 slice-read-group-count c = search needs
@@ -46,14 +57,15 @@ groups-rising-requires c κs = search needs
 
 make-groups-requires : tie.Need-make-groups-requires
 make-groups-requires c κs =
-    let s = c .before .before .before .before .before .before .before .before .before in
+    let g = c .before in
+    let s = entry g in
     let a = s .args in
     let r = inOrder (radioKeys (a .radios)) in (
-      groups-taken (found s) (a .keeps) (a .order) (groupKeys (a .named)) (radioKeys (a .radios)) (a .state) (s .pre) _ r (these (c .before)) refl _ _
-          (c .before .before .before .before .new-groups .ensures .0) (c .before .before .new-pairs .ensures .0),
+      groups-taken (found s) (a .keeps) (a .order) (groupKeys (a .named)) (radioKeys (a .radios)) (a .state) (s .pre) _ r (these g) refl _ _
+          (g .before .before .before .new-groups .ensures .0) (g .before .new-pairs .ensures .0),
       s .pre .fine,
       s .pre .row,
-      rw (these (c .before)) (sorted-rises (groupKeys (a .named)) (s .pre .groupsOnce)),
+      rw (these g) (sorted-rises (groupKeys (a .named)) (s .pre .groupsOnce)),
     )
 
 radios-rising-requires : tie.Need-radios-rising-requires
@@ -61,20 +73,20 @@ radios-rising-requires c κs = search needs
 
 set-all-requires : tie.Need-set-all-requires
 set-all-requires c κs =
-    let s = c .before .before .before .before .before .before .before .before .before .before .before .before .before in
+    let g = rising c in
+    let s = entry g in
     let a = s .args in (
-      pairs-taken (found s) (a .keeps) (a .order) (groupKeys (a .named)) (radioKeys (a .radios)) (a .state) (s .pre) _ _ (these (c .before .before .before .before .before))
-          (those (c)) _ _ (c .before .before .before .before .before .before .before .before .new-groups .ensures .0) (c .before .before .before .before .before .before .new-pairs .ensures .0),
-      rw (these (c .before .before .before .before .before)) (sorted-rises (groupKeys (a .named)) (s .pre .groupsOnce)),
-      rw (those (c)) (sorted-rises (radioKeys (a .radios)) (s .pre .radiosOnce)),
+      pairs-taken (found s) (a .keeps) (a .order) (groupKeys (a .named)) (radioKeys (a .radios)) (a .state) (s .pre) _ _ (these g) (those c) _ _
+          (g .before .before .before .new-groups .ensures .0) (g .before .new-pairs .ensures .0),
+      rw (these g) (sorted-rises (groupKeys (a .named)) (s .pre .groupsOnce)),
+      rw (those c) (sorted-rises (radioKeys (a .radios)) (s .pre .radiosOnce)),
     )
 
 add-head : tie.Need-add-head
 add-head c =
-    let s = c .before .before .before .before .before .before .before .before .before .before .before .before .before .before .before in
-    let a = s .args in
-    let n : length (a .named .key) ≡ 10 = search needs in
-    omega (arith, s .pre .sound .fewGroups, c .before .before .before .before .before .before .before .before .before .before .new-groups .ensures .1, few-groups (a .named) n)
+    let g = rising (c .before .before) in
+    let s = entry g in
+    omega (arith, s .pre .sound .fewGroups, g .before .before .before .new-groups .ensures .1, few-groups (s .args .named) (ten s))
 
 slice-write-head : tie.Need-slice-write-head
 slice-write-head c = search needs
@@ -96,11 +108,13 @@ same-length-3 c = search needs
 
 returns : tie.Need-returns
 returns c =
-    let s = c .before .before .before .before .before .before .before .before .before .before .before .before .before .before .before in
+    let r = c .before .before in
+    let g = rising r in
+    let s = entry g in
     let a = s .args in
-    carried-laid (found s) (a .keeps) (a .order) (groupKeys (a .named)) (radioKeys (a .radios)) (a .state) (s .pre) _ _ (these (c .before .before .before .before .before .before .before))
-    (those (c .before .before)) _ _ (c .before .before .before .before .before .before .before .before .before .before .new-groups .ensures .0) (c .before .before .before .before .before .before .before .before .new-pairs .ensures .0) _ _ (c .before .before .before .before .before .make-groups .ensures)
-    (c .before .set-all .ensures)
+    carried-laid (found s) (a .keeps) (a .order) (groupKeys (a .named)) (radioKeys (a .radios)) (a .state) (s .pre) _ _ (these g) (those r) _ _
+    (g .before .before .before .new-groups .ensures .0) (g .before .new-pairs .ensures .0) _ _
+    (r .before .before .before .make-groups .ensures) (c .before .set-all .ensures)
 
 pub carry-out-spec : {M : Type 1} → statement M
 carry-out-spec =
