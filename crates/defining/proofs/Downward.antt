@@ -180,7 +180,9 @@ module _ {K X : Type 0} {same below : K → K → Bool} (o : Linear same below) 
         keys = rw (q, add-one) (take-suc ks j d h)
 
         low-keys : Lower below k (take j ks)
-        low-keys = climbs-last below (take j ks) k (rw keys at (climbs-front below (take (j + 1) ks) (drop (j + 1) ks) (rw (take-append-drop (j + 1) ks) climbs))) .0
+        low-keys =
+            let front = climbs-front below (take (j + 1) ks) (drop (j + 1) ks) (rw (take-append-drop (j + 1) ks) climbs) in
+            climbs-last below (take j ks) k (rw keys at front) .0
 
         -- the key among the entries that stand, by its place
         abbrev place : Place

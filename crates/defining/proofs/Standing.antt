@@ -32,7 +32,10 @@ fine-good e h =
 
 fine-all : (l : List (ℕ × Group)) → all (goodGroup placing) l ≡ true → FineGroups l
 fine-all [] h = tt
-fine-all (e ∷ l) h = (fine-good e (and-l (goodGroup placing e) (all (goodGroup placing) l) h), fine-all l (and-r (goodGroup placing e) (all (goodGroup placing) l) h))
+fine-all (e ∷ l) h =
+    let good = goodGroup placing e in
+    let rest = all (goodGroup placing) l in
+    (fine-good e (and-l good rest h), fine-all l (and-r good rest h))
 
 pub fine-groups : (c : Contents) → Sound c → FineGroups (ledgerOf c .groups)
 fine-groups c w =

@@ -29,7 +29,8 @@ pub fn carry_out(
 )
     requires { ⌜ Carries (contents (now head) (now groups) (now pairs)) keeps order (groupKeys named) (radioKeys radios) state ⌝ }
     ensures { λ _. ⌜ contents (now (head .exit)) (now (groups .exit)) (now (pairs .exit)) ≡
-        laid (carried keeps (groupOf order .1) (groupKeys named) (radioKeys radios) state (contents (now (head .entry)) (now (groups .entry)) (now (pairs .entry))))
+        laid (carried keeps (groupOf order .1) (groupKeys named) (radioKeys radios) state
+        (contents (now (head .entry)) (now (groups .entry)) (now (pairs .entry))))
         (contents (now (head .entry)) (now (groups .entry)) (now (pairs .entry))) ⌝ }
 {
     let group_count = head[GROUP_COUNT] as usize;

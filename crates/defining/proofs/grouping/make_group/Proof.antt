@@ -14,11 +14,18 @@ use Rattle.defining.proofs.grouping.make_group.Statement.{statement}
 use Rattle.defining.proofs.grouping.make_group.Tie as tie
 
 -- there is room at the place that was found
-opens : (c : tie.After-group-place) → let a = c .before .before .args in Opens (c .group-place .result) (a .step .left) (a .step .by) (a .groups .now)
-opens c = let a = c .before .before .args in subst (λ (p : Place). Opens p (a .step .left) (a .step .by) (a .groups .now)) (sym (c .group-place .ensures)) (c .before .before .pre)
+opens : (c : tie.After-group-place) →
+    let a = c .before .before .args in
+    Opens (c .group-place .result) (a .step .left) (a .step .by) (a .groups .now)
+opens c =
+    let s = c .before .before in
+    let a = s .args in
+    subst (λ (p : Place). Opens p (a .step .left) (a .step .by) (a .groups .now)) (sym (c .group-place .ensures)) (s .pre)
 
 -- the row stands behind those that are not moved
-at : (c : tie.After-behind) → let a = c .before .before .before .before .before .args in c .behind .result + a .step .by - 1 < length (a .groups .now)
+at : (c : tie.After-behind) →
+    let a = c .before .before .before .before .before .args in
+    c .behind .result + a .step .by - 1 < length (a .groups .now)
 at c = let w = opens (c .before .before .before) in omega (arith, w .inside, w .room, w .opens, c .behind .ensures)
 
 group-place-requires : tie.Need-group-place-requires
@@ -34,33 +41,49 @@ move-groups-requires : tie.Need-move-groups-requires
 move-groups-requires c κs = let w = opens (c .before .before .before .before) in (rw (c .before .behind .ensures) (w .inside), w .room)
 
 add-at : tie.Need-add-at
-add-at c = let w = opens (c .before .before .before .before .before .before) in omega (arith, w .inside, w .room, c .before .before .before .behind .ensures)
+add-at c =
+    let b = c .before .before .before in
+    let w = opens (b .before .before .before) in
+    omega (arith, w .inside, w .room, b .behind .ensures)
 
 sub-at : tie.Need-sub-at
-sub-at c = let w = opens (c .before .before .before .before .before .before) in omega (arith, w .opens, c .before .before .before .behind .ensures)
+sub-at c =
+    let b = c .before .before .before in
+    let w = opens (b .before .before .before) in
+    omega (arith, w .opens, b .behind .ensures)
 
 mul-row : tie.Need-mul-row
-mul-row c = let w = opens (c .before .before .before .before .before .before) in omega (arith, w .inside, w .room, w .opens, c .before .before .before .behind .ensures)
+mul-row c =
+    let b = c .before .before .before in
+    let w = opens (b .before .before .before) in
+    omega (arith, w .inside, w .room, w .opens, b .behind .ensures)
 
 slice-set-from-row : tie.Need-slice-set-from-row
 slice-set-from-row c =
-    let w = opens (c .before .before .before .before .before .before) in
-    let a = c .before .before .before .before .before .before .before .before .args in
-    let n = ap length (c .before .move-groups .ensures) ∙ moved-length (a .step .by) (a .step .left) (c .before .before .before .behind .result) (a .groups .now) (w .room)
-    (rw (c .before .before .before .behind .ensures) (w .inside)) in
-    omega (arith, at (c .before .before .before), n)
+    let b = c .before .before .before in
+    let place = b .before .before .before in
+    let a = place .before .before .args in
+    let w = opens place in
+    let n = ap length (c .before .move-groups .ensures)
+    ∙ moved-length (a .step .by) (a .step .left) (b .behind .result) (a .groups .now) (w .room) (rw (b .behind .ensures) (w .inside)) in
+    omega (arith, at b, n)
 
 step-after-requires : tie.Need-step-after-requires
-step-after-requires c κs = let w = opens (c .before .before .before .before .before .before) in omega (arith, w .opens, c .before .before .before .behind .ensures)
+step-after-requires c κs =
+    let b = c .before .before .before in
+    let w = opens (b .before .before .before) in
+    omega (arith, w .opens, b .behind .ensures)
 
 same-length : tie.Need-same-length
 same-length c = search needs
 
 returns : tie.Need-returns
 returns c =
-    let a = c .before .before .before .before .before .before .before .before .before .args in
-    row-put _ _ (c .before .before .before .before .before .before .before .group-place .ensures) (a .step .left) (a .step .by) _ (c .before .before .before .before .behind .ensures)
-    (λ (p : Place). rowFor p (a .group .0) (a .keeps) (a .order) (a .groups .now)) _ (c .before .before .before .before .before .row-for .ensures) (a .groups .now) _
+    let b = c .before .before .before .before in
+    let place = b .before .before .before in
+    let a = place .before .before .args in
+    row-put _ _ (place .group-place .ensures) (a .step .left) (a .step .by) _ (b .behind .ensures)
+    (λ (p : Place). rowFor p (a .group .0) (a .keeps) (a .order) (a .groups .now)) _ (b .before .row-for .ensures) (a .groups .now) _
     (c .before .before .move-groups .ensures) _ (c .step-after .ensures)
 
 pub make-group-spec : {M : Type 1} → statement M
