@@ -82,11 +82,17 @@ pairs-back (e ∷ l) = ap (λ (z : List (Pair × Mark)). e ∷ z) (pairs-back l)
 
 groups-back : (l : List (ℕ × Group)) → all (goodGroup placing) l ≡ true → map groupOf (map groupRow l) ≡ l
 groups-back [] h = refl
-groups-back (e ∷ l) h = λ i. good-back e (and-l (goodGroup placing e) (all (goodGroup placing) l) h) i ∷ groups-back l (and-r (goodGroup placing e) (all (goodGroup placing) l) h) i
+groups-back (e ∷ l) h =
+    let good = and-l (goodGroup placing e) (all (goodGroup placing) l) h in
+    let rest = and-r (goodGroup placing e) (all (goodGroup placing) l) h in
+    λ i. good-back e good i ∷ groups-back l rest i
 
 groups-tidy : (l : List (ℕ × Group)) → all (goodGroup placing) l ≡ true → all tidy (map groupRow l) ≡ true
 groups-tidy [] h = refl
-groups-tidy (e ∷ l) h = and-in (good-tidy e (and-l (goodGroup placing e) (all (goodGroup placing) l) h)) (groups-tidy l (and-r (goodGroup placing e) (all (goodGroup placing) l) h))
+groups-tidy (e ∷ l) h =
+    let good = and-l (goodGroup placing e) (all (goodGroup placing) l) h in
+    let rest = and-r (goodGroup placing e) (all (goodGroup placing) l) h in
+    and-in (good-tidy e good) (groups-tidy l rest)
 
 -- ---- the ledger, laid ----
 

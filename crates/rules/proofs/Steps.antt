@@ -54,8 +54,8 @@ module _ (p : Placing) (laws : Lawful p) (l : Ledger) (s : Standing p l) (o : De
       ≡ length (l .groups) + length (keep (λ g. not (present (group l g))) (defineGroups o))
   define-groups-total =
       ap length made
-      ∙ length-puts eqb eqb-true eqb-same (p .groups) (laws .groups) (l .groups) (defineGroups o) (λ g. groupAfter (e .keeps) (given p e) (group l g)) (s .groups)
-      (numbers-once (o .groups))
+      ∙ length-puts eqb eqb-true eqb-same (p .groups) (laws .groups) (l .groups) (defineGroups o)
+      (λ g. groupAfter (e .keeps) (given p e) (group l g)) (s .groups) (numbers-once (o .groups))
 
   pub define-pairs-total : length (apply p l (effect (view l) (define o room)) .pairs)
       ≡ length (l .pairs) + sum (λ g. length (keep (λ r. not (present (find samePair (l .pairs) (g, r)))) (defineRadios o))) (defineGroups o)
