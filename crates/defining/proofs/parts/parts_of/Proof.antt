@@ -49,18 +49,21 @@ untaken-requires-3 c κs = search needs
 returns : tie.Need-returns
 unfolding defineOf
 returns c =
-    let a = c .before .before .before .before .before .before .before .before .before .args in
-    let lists = c .before .before .before .before .before .before .before .before .lists-of .ensures in
+    let o = c .before .before .before .before in
+    let g = o .before .before in
+    let l = g .before .before in
+    let a = l .before .args in
+    let lists = l .lists-of .ensures in
     let gs = lists-said (a .asker .0) (a .place) in
     let os = owners-said (a .asker .0) (a .place) in
     let rs = radios-said (a .asker .0) (a .place) in
-    let named = c .before .before .before .before .before .before .groups-in .ensures
+    let named = g .groups-in .ensures
     ∙ ap (λ (d : DefineLists). groupsAs (numbersIn (listOf (d .groups)))) lists
     ∙ ap (λ (n : Option Numbers). groupsAs (numbersIn n)) gs in
-    let radios = c .before .before .before .before .before .radios-in .ensures
+    let radios = o .before .radios-in .ensures
     ∙ ap (λ (d : DefineLists). radiosAs (numbersIn (listOf (d .radios)))) lists
     ∙ ap (λ (n : Option Numbers). radiosAs (numbersIn n)) rs in
-    let owners = c .before .before .before .before .owners-in .ensures
+    let owners = o .owners-in .ensures
     ∙ ap (λ (d : DefineLists). ownersAs (rising (key (a .asker .0) ∷ numbersIn (listOf (d .owners))))) lists
     ∙ ap (λ (n : Option Numbers). ownersAs (rising (key (a .asker .0) ∷ numbersIn n))) os
     ∙ ap ownersAs (sym (rising-once (key (a .asker .0) ∷ numbersIn (defineOf (a .asker .0) (a .place) .owners)))) in
