@@ -10,11 +10,13 @@ use Rattle.rules.specs.Outgoing.{Outgoing}
 use Rattle.rules.specs.Replies.{Listing, Showing}
 use Rattle.rules.specs.Ledger.{Ledger, view}
 use Rattle.rules.specs.Arrival.{byArrival}
+use Rattle.rules.specs.Stretches.{InStretches}
 use Rattle.rules.specs.Steps.{refused, sent}
 use Rattle.rules.specs.History.{History, refusalIn, sentIn}
 use Rattle.rules.proofs.Arrival.{by-arrival}
 use Rattle.rules.proofs.Agree.{refusal-agree, sent-agree, list-agree, show-agree}
 use Rattle.rules.proofs.Alike.{as-before}
+use Rattle.rules.proofs.Stretches.{run-in-stretches}
 use Rattle.order.specs.Steps.{answerStep, defineStep, deleteStep}
 use Rattle.order.specs.Walks.{onto}
 use Rattle.store.specs.Storage.{Rows, Contents, ledgerOf}
@@ -50,6 +52,7 @@ before {c} {h} k =
       stand = ap view (f .holds) ∙ a .stand;
       groups = ap (λ (l : Ledger). length (l .groups)) (f .holds) ∙ a .groups;
       pairs = ap (λ (l : Ledger). length (l .pairs)) (f .holds) ∙ a .pairs;
+      stretches = subst InStretches (sym (f .holds)) (run-in-stretches h);
       defines = λ {asker} {values} {room} {rows} {c′} {reply} e.
           sent-before h (defineStep asker (values .place) (length room)) room rows reply (f .defines e);
       deletes = λ {asker} {named} {remove} {deassign} {radios} {room} {rows} {c′} {reply} e.

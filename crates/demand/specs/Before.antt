@@ -1,5 +1,5 @@
 -- Document 02, P10, over the contracts of the ledger's own functions: on the contents that any run has left, the groups and pairs that stand,
--- and the answer of every call, are those of the layout by arrival after the same run.
+-- and the answer of every call, are those of the layout by arrival after the same run; and the pairs are laid as P10 says.
 use mathlib.Core.Path.{_≡_}
 use mathlib.Core.Bool.{Bool}
 use mathlib.Core.List.{map}
@@ -9,6 +9,7 @@ use Rattle.layout.specs.declared.Record.{Record}
 use Rattle.rules.specs.Order.{tick}
 use Rattle.rules.specs.Ledger.{Ledger, view, list, show}
 use Rattle.rules.specs.Arrival.{byArrival}
+use Rattle.rules.specs.Stretches.{InStretches}
 use Rattle.rules.specs.Steps.{refused, sent}
 use Rattle.rules.specs.History.{History}
 use Rattle.rules.specs.Run.{run}
@@ -38,6 +39,8 @@ pub record AsBefore (c : Contents) (h : History) : Type 0 where
   pub stand : view (ledgerOf c) ≡ view (old h)
   pub groups : length (ledgerOf c .groups) ≡ length (old h .groups)
   pub pairs : length (ledgerOf c .pairs) ≡ length (old h .pairs)
+  -- each group's pairs in one unbroken stretch, radios rising, stretches in the order of the group numbers
+  pub stretches : InStretches (ledgerOf c)
   -- every reply, every refusal and every outgoing order
   pub defines : {asker : Itsi} {values : Record} {room rows : Rows} {c′ : Contents} {reply : Sent}
       → Defines asker values room rows c c′ reply

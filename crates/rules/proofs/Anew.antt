@@ -21,11 +21,11 @@ use Rattle.rules.specs.Ledger.{Group, group, ownersOf, parametersOf, sam
 use Rattle.rules.specs.Entries.{find}
 use Rattle.rules.specs.History.{History, _then_, world, stands, owner, mark, radiosIn, refusalIn}
 use Rattle.rules.specs.Placing.{Placing, Lawful}
-use Rattle.rules.specs.Arrival.{byArrival}
+use Rattle.rules.specs.ByNumber.{byNumber}
 use Rattle.rules.specs.Run.{run}
 use Rattle.rules.proofs.Tests.{clash, and-in}
 use Rattle.rules.proofs.ListLaws.{mem-once, mem-head, no-member}
-use Rattle.rules.proofs.Arrival.{by-arrival}
+use Rattle.rules.proofs.ByNumber.{by-number}
 use Rattle.rules.proofs.Agree.{run-agree}
 use Rattle.rules.proofs.Written.{run-form}
 use Rattle.rules.proofs.Demand.{radios-marked, list-exact, exactly-unique}
@@ -37,11 +37,11 @@ pub record Bare (w : World) (g : ℕ) : Type 0 where
   pub marks : (r : ℕ) → w .mark g r ≡ none
 
 pub gone-bare : (h : History) (g : ℕ) → stands h g ≡ false → Bare (world h) g
-gone-bare h g = subst (λ (w : World). w .stands g ≡ false → Bare w g) (run-agree byArrival by-arrival h)
+gone-bare h g = subst (λ (w : World). w .stands g ≡ false → Bare w g) (run-agree byNumber by-number h)
     (λ e. record {
-      owners = λ a. none-owns (group (run byArrival h) g) a e;
-      parameters = none-has (group (run byArrival h) g) e;
-      marks = λ r. unmarked r (find samePair (run byArrival h .pairs) (g, r)) refl e;
+      owners = λ a. none-owns (group (run byNumber h) g) a e;
+      parameters = none-has (group (run byNumber h) g) e;
+      marks = λ r. unmarked r (find samePair (run byNumber h .pairs) (g, r)) refl e;
     })
   where
     none-owns : (o : Option Group) (a : ℕ) → present o ≡ false → mem a (ownersOf o) ≡ false
@@ -52,9 +52,9 @@ gone-bare h g = subst (λ (w : World). w .stands g ≡ false → Bare w g) (run-
     none-has none e = refl
     none-has (some x) e = clash e
 
-    unmarked : (r : ℕ) (o : Option Mark) → find samePair (run byArrival h .pairs) (g, r) ≡ o → present (group (run byArrival h) g) ≡ false → o ≡ none
+    unmarked : (r : ℕ) (o : Option Mark) → find samePair (run byNumber h .pairs) (g, r) ≡ o → present (group (run byNumber h) g) ≡ false → o ≡ none
     unmarked r none q e = refl
-    unmarked r (some m) q e = clash (sym (run-form byArrival by-arrival h .there g r (ap present q)) ∙ e)
+    unmarked r (some m) q e = clash (sym (run-form byNumber by-number h .there g r (ap present q)) ∙ e)
 
 -- an accepted step has its effect
 pub world-taken : (h : History) (s : Step) → refusalIn h s ≡ none → world (h then s) ≡ after (world h) (effect (world h) s)
