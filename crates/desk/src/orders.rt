@@ -302,25 +302,7 @@ fn answer(
     )
 }
 
-// So many ticks; a refusal ends them.
-fn tick_on(
-    count: u64,
-    head: &[u64; HEAD_WORDS],
-    groups: &[[u64; GROUP_WORDS]; MAX_GROUPS],
-    pairs: &mut [[u64; PAIR_WORDS]; MAX_PAIRS],
-) -> Reply {
-    let mut left = count;
-    while 0 < left {
-        left -= 1;
-        let reply = ledger::tick(head, groups, pairs);
-        if let Reply::Refused(_) = reply {
-            return reply;
-        }
-    }
-    Reply::Done
-}
-
-// T: how many ticks.
+// T: so many ticks; a refusal ends them.
 fn wait(
     line: &[u8],
     head: &[u64; HEAD_WORDS],
@@ -331,7 +313,15 @@ fn wait(
     if count.next != line.len() {
         return bad_line();
     }
-    tick_on(count.value, head, groups, pairs)
+    let mut left = count.value;
+    while 0 < left {
+        left -= 1;
+        let reply = ledger::tick(head, groups, pairs);
+        if let Reply::Refused(_) = reply {
+            return reply;
+        }
+    }
+    Reply::Done
 }
 
 // L: asker, group, room; with `rows` as the places for radios.
@@ -376,23 +366,6 @@ fn show(
     put_shown(shown, out)
 }
 
-// Carries out an order that sends nothing.
-fn settle(
-    line: &[u8],
-    head: &mut [u64; HEAD_WORDS],
-    groups: &mut [[u64; GROUP_WORDS]; MAX_GROUPS],
-    pairs: &mut [[u64; PAIR_WORDS]; MAX_PAIRS],
-) -> Reply {
-    let first = letter(line, 0);
-    match first {
-        b'E' => clear(line, head, groups, pairs),
-        b'A' => answer(line, head, groups, pairs),
-        b'T' => wait(line, head, groups, pairs),
-        b'M' => set_word(line, head, groups, pairs),
-        _ => bad_line(),
-    }
-}
-
 // Carries out an order.
 fn act(
     line: &[u8],
@@ -405,7 +378,11 @@ fn act(
     match first {
         b'D' => define(line, head, groups, pairs, orders),
         b'X' => delete(line, head, groups, pairs, orders),
-        _ => Outcome::Replied(settle(line, head, groups, pairs)),
+        b'E' => Outcome::Replied(clear(line, head, groups, pairs)),
+        b'A' => Outcome::Replied(answer(line, head, groups, pairs)),
+        b'T' => Outcome::Replied(wait(line, head, groups, pairs)),
+        b'M' => Outcome::Replied(set_word(line, head, groups, pairs)),
+        _ => Outcome::Replied(bad_line()),
     }
 }
 
