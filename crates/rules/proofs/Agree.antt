@@ -4,7 +4,7 @@ use mathlib.Core.Path.{_≡_, refl, sym, _∙_, ap, subst}
 use mathlib.Core.Bool.{cond}
 use mathlib.Core.List.{List, []}
 use lib.ListN.{length}
-use Rattle.rules.specs.Number.{key}
+use Rattle.rules.specs.Number.{Number, key}
 use Rattle.rules.specs.Order.{Step}
 use Rattle.rules.specs.World.{World, membersIn, ownersIn, groupTotal, pairTotal, Tally}
 use Rattle.rules.specs.Effect.{Effect, effect}
@@ -120,13 +120,13 @@ module _ (p : Placing) (laws : Lawful p) where
       ∙ ap (λ (w : World). cond (accepted (refusalIn h s)) (outgoing w (tallyIn w (named (effect w s) (namedIn h)) (effect w s)) s) []) (run-agree h)
 
   -- the reply to a list is the history's
-  pub list-agree : (h : History) (asker g room : ℕ) → list (run p h) asker g room ≡ listIn h asker g room
+  pub list-agree : (h : History) (asker g : Number) (room : ℕ) → list (run p h) asker g room ≡ listIn h asker g room
   list-agree h asker g room =
       ap (λ (radios : List ℕ). listing (view (run p h)) asker g radios room) (members-agree (run p h) (namedIn h) (run-within h) (key g))
       ∙ ap (λ (w : World). listing w asker g (membersIn w (namedIn h .radios) (key g)) room) (run-agree h)
 
   -- and so is the reply to a show
-  pub show-agree : (h : History) (asker g : ℕ) → show (run p h) asker g ≡ showIn h asker g
+  pub show-agree : (h : History) (asker g : Number) → show (run p h) asker g ≡ showIn h asker g
   show-agree h asker g =
       ap (λ (owners : List ℕ). showing (view (run p h)) asker g owners) (owners-agree (run p h) (namedIn h) (run-within h) (key g))
       ∙ ap (λ (w : World). showing w asker g (ownersIn w (namedIn h .owners) (key g))) (run-agree h)

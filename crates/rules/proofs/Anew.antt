@@ -1,20 +1,20 @@
 -- A group that is made starts with what the define gives it and nothing else, whatever was there under its number before.
 use Prim.Native.Nat.{ℕ}
 use mathlib.Core.Path.{_≡_, refl, sym, _∙_, ap, subst}
-use mathlib.Core.Bool.{Bool, true, false, cond, not, _&&_}
+use mathlib.Core.Bool.{Bool, true, false, cond, not, _&&_, _||_}
 use mathlib.Core.List.{[], _∷_}
 use mathlib.Core.Option.{Option, none, some}
 use native.Mathlib.Omega.{arith}
 use Rattle.rules.specs.Lists.{present, mem}
-use Rattle.rules.specs.Number.{key, numbersIn}
+use Rattle.rules.specs.Number.{Number, key, wideNumber, numbersIn}
 use Rattle.rules.specs.Parameters.{noParameters, replaced}
 use Rattle.rules.specs.Mark.{Mark, begun}
 use Rattle.rules.specs.Order.{Define, Delete, Step, define, delete, defineGroups, defineRadios, defineOwners, deleteGroups}
 use Rattle.rules.specs.World.{World}
 use Rattle.rules.specs.Effect.{effect}
 use Rattle.rules.specs.Change.{after}
-use Rattle.rules.specs.Refusals.{accepted}
-use Rattle.rules.specs.Demand.{told, Exactly}
+use Rattle.rules.specs.Refusals.{accepted, refuses, badValues}
+use Rattle.rules.specs.Demand.{Owns, told, Exactly}
 use Rattle.refusal.specs.declared.Refusal.{Refusal}
 use Rattle.rules.specs.Replies.{entries}
 use Rattle.rules.specs.Ledger.{Group, group, ownersOf, parametersOf, samePair, list}
@@ -23,11 +23,11 @@ use Rattle.rules.specs.History.{History, _then_, world, stands, owner, m
 use Rattle.rules.specs.Placing.{Placing, Lawful}
 use Rattle.rules.specs.ByNumber.{byNumber}
 use Rattle.rules.specs.Run.{run}
-use Rattle.rules.proofs.Tests.{clash, and-in}
+use Rattle.rules.proofs.Tests.{clash, and-in, or-l}
 use Rattle.rules.proofs.ListLaws.{mem-once, mem-head, no-member}
 use Rattle.rules.proofs.ByNumber.{by-number}
 use Rattle.rules.proofs.Agree.{run-agree}
-use Rattle.rules.proofs.Written.{run-form}
+use Rattle.rules.proofs.Written.{passed, run-form}
 use Rattle.rules.proofs.Demand.{radios-marked, list-exact, exactly-unique}
 
 -- nothing is kept of a group that does not stand
@@ -87,18 +87,30 @@ module _ (h : History) (o : Define) (room g : ℕ)
   made-asker : owner (h then define o room) g (key (o .asker)) ≡ true
   made-asker =
       let a = key (o .asker) in
-      made-owner a ∙ mem-once a (a ∷ numbersIn (o .owners)) ∙ mem-head a (numbersIn (o .owners))
+      let listed = numbersIn (o .asker .extension) (o .owners) in
+      made-owner a ∙ mem-once a (a ∷ listed) ∙ mem-head a listed
+
+  -- the asker of a define that is accepted has numbers of 24 bits
+  narrow-asker : wideNumber (o .asker) ≡ false
+  narrow-asker = or-l (wideNumber (o .asker)) _ (passed _ (wideNumber (o .asker) || (refuses (o .judged) || badValues o)) _ accepts .0)
 
 -- a define that assigns none makes an empty group: the asker's list holds nothing, and needs no room
-pub made-empty : (p : Placing) → Lawful p → (h : History) (o : Define) (room g : ℕ) → stands h (key g) ≡ false → refusalIn h (define o room) ≡ none
-    → mem (key g) (defineGroups o) ≡ true → o .radios ≡ none
+pub made-empty : (p : Placing) → Lawful p → (h : History) (o : Define) (room : ℕ) (g : Number) → wideNumber g ≡ false
+    → stands h (key g) ≡ false → refusalIn h (define o room) ≡ none → mem (key g) (defineGroups o) ≡ true → o .radios ≡ none
     → (room′ : ℕ) → list (run p (h then define o room)) (o .asker) g room′ ≡ record { refused = none; entries = [] }
-made-empty p laws h o room g gone accepts names n room′ =
-    let e = list-exact p laws h′ (o .asker) g room′ (made-asker h o room (key g) gone accepts names) (rw no-radios (omega arith)) in
+made-empty p laws h o room g narrow gone accepts names n room′ =
+    let e = list-exact p laws h′ (o .asker) g room′ owned (rw no-radios (omega arith)) in
     λ i. record { refused = e .0 i; entries = exactly-unique h′ (key g) _ [] (e .1) nothing-listed i }
   where
     h′ : History
     h′ = h then define o room
+
+    owned : Owns h′ (o .asker) g
+    owned = record {
+      narrowAsker = narrow-asker h o room (key g) gone accepts names;
+      narrowGroup = narrow;
+      owns = made-asker h o room (key g) gone accepts names;
+    }
 
     unmarked : (r : ℕ) → mark h′ (key g) r ≡ none
     unmarked = made-unmarked h o room (key g) gone accepts names n
@@ -110,9 +122,9 @@ made-empty p laws h o room g gone accepts names n room′ =
     nothing-listed = record { rises = tt; says = λ r. sym (ap told (unmarked r)) }
 
 -- a group deleted and made again starts empty, whatever radios it had
-pub again-empty : (p : Placing) → Lawful p → (h : History) (d : Delete) (o : Define) (g room room′ room″ : ℕ)
+pub again-empty : (p : Placing) → Lawful p → (h : History) (d : Delete) (o : Define) (g : Number) (room room′ room″ : ℕ) → wideNumber g ≡ false
     → refusalIn h (delete d room) ≡ none → d .delete ≡ true → mem (key g) (deleteGroups d) ≡ true
     → refusalIn (h then delete d room) (define o room′) ≡ none → mem (key g) (defineGroups o) ≡ true → o .radios ≡ none
     → list (run p (h then delete d room then define o room′)) (o .asker) g room″ ≡ record { refused = none; entries = [] }
-again-empty p laws h d o g room room′ room″ e y n e′ n′ r =
-    made-empty p laws (h then delete d room) o room′ g (deleted-gone h d room (key g) e y n) e′ n′ r room″
+again-empty p laws h d o g room room′ room″ narrow e y n e′ n′ r =
+    made-empty p laws (h then delete d room) o room′ g narrow (deleted-gone h d room (key g) e y n) e′ n′ r room″

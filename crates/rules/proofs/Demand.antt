@@ -1,29 +1,32 @@
 -- Demand 3: after any history an owner's list, with room, is exactly the history's, and so is an owner's show.
 use Prim.Native.Nat.{ℕ, _≤_}
-use mathlib.Core.Path.{_≡_, refl, sym, _∙_, subst}
+use mathlib.Core.Path.{_≡_, refl, sym, ap, _∙_, subst}
 use mathlib.Core.Bool.{true, false, cond, not, _&&_}
-use mathlib.Core.List.{List, []}
+use mathlib.Core.List.{List, [], _∷_}
 use mathlib.Core.Option.{Option, none, some}
-use lib.Dec.{ltb, leb}
+use lib.Dec.{eqb, ltb, leb}
 use lib.ListN.{length}
 use borrow.Author.Tests.{le-ltb, not-true}
 use Rattle.rules.specs.Lists.{all, present, mem, rising, Rising}
-use Rattle.rules.specs.Number.{key, wide, wideKey}
+use Rattle.rules.specs.Entries.{find}
+use Rattle.rules.specs.Number.{Number, key, wideKey}
 use Rattle.rules.specs.Parameters.{noParameters, badParameters}
+use Rattle.rules.specs.Mark.{Mark}
 use Rattle.rules.specs.World.{World, ownersIn}
 use Rattle.rules.specs.Refusals.{accepted, showRefusal, listRefusal}
 use Rattle.rules.specs.Replies.{Entry, entries, Listing, Showing}
-use Rattle.rules.specs.Ledger.{Group, group, ownersOf, list, show}
+use Rattle.rules.specs.Ledger.{Group, samePair, group, ownersOf, list, show}
 use Rattle.rules.specs.Placing.{Placing, Lawful}
-use Rattle.rules.specs.Written.{maxOwners, goodOwners, goodGroup}
+use Rattle.rules.specs.ByNumber.{byNumber}
+use Rattle.rules.specs.Written.{maxOwners, goodOwners, goodGroup, goodMark}
 use Rattle.rules.specs.History.{History, namedIn, world, stands, owner, mark, radiosIn, listIn, showIn}
 use Rattle.rules.specs.Run.{run}
-use Rattle.rules.specs.Demand.{Exactly, Tells}
-use Rattle.rules.proofs.Tests.{clash, and-l, and-r}
+use Rattle.rules.specs.Demand.{Owns, told, entryRadios, Exactly, Tells}
+use Rattle.rules.proofs.Tests.{split, clash, and-l, and-r}
 use Rattle.rules.proofs.ListLaws.{all-in, rising-keep, rising-rising}
+use Rattle.rules.proofs.ByNumber.{by-number}
 use Rattle.rules.proofs.Totals.{within-history, narrow}
 use Rattle.rules.proofs.Agree.{run-agree, list-agree, show-agree}
-use Rattle.rules.proofs.Ranges.{key-wide}
 use Rattle.rules.proofs.Written.{run-form}
 use Rattle.rules.proofs.Listing.{same-listed, entries-radios, entries-say}
 
@@ -46,49 +49,56 @@ entries-exact h g = record {
 module _ (p : Placing) (laws : Lawful p) (h : History) where
   -- ---- an owner is not refused ----
 
-  -- an owner and its group are keys of 24 bits, and the group stands
-  owner-known : (g a : ℕ) → owner h g a ≡ true → (wideKey a ≡ false) × (wideKey g ≡ false) × (stands h g ≡ true)
-  owner-known g a = subst (λ (w : World). w .owner g a ≡ true → (wideKey a ≡ false) × (wideKey g ≡ false) × (w .stands g ≡ true))
-      (run-agree p laws h) (known (group (run p h) g) (run-form p laws h .groups g))
+  -- what stands are keys in range
+  pub radio-narrow : (g r : ℕ) → present (mark h g r) ≡ true → wideKey r ≡ false
+  radio-narrow g r = subst (λ (w : World). present (w .mark g r) ≡ true → wideKey r ≡ false) (run-agree p laws h)
+      (there (find samePair (run p h .pairs) (g, r)) (run-form p laws h .marks g r))
     where
-      known : (o : Option Group) → ((x : Group) → o ≡ some x → goodGroup p (g, x) ≡ true) → mem a (ownersOf o) ≡ true
-          → (wideKey a ≡ false) × (wideKey g ≡ false) × (present o ≡ true)
-      known none f e = clash (sym e)
-      known (some x) f e =
-          let k = f x refl in
+      there : (o : Option Mark) → ((m : Mark) → o ≡ some m → (wideKey r ≡ false) × (goodMark m ≡ true)) → present o ≡ true → wideKey r ≡ false
+      there none f e = clash (sym e)
+      there (some m) f e = f m refl .0
+
+  pub owner-narrow : (g a : ℕ) → owner h g a ≡ true → wideKey a ≡ false
+  owner-narrow g a = subst (λ (w : World). w .owner g a ≡ true → wideKey a ≡ false) (run-agree p laws h)
+      (there (group (run p h) g) (run-form p laws h .groups g))
+    where
+      there : (o : Option Group) → ((x : Group) → o ≡ some x → goodGroup p (g, x) ≡ true) → mem a (ownersOf o) ≡ true → wideKey a ≡ false
+      there none f e = clash (sym e)
+      there (some x) f e =
           let few = ltb 0 (length (x .owners)) in
           let many = leb (length (x .owners)) maxOwners in
           let apart = p .owners .form (x .owners) in
           let narrow = all (λ a. not (wideKey a)) (x .owners) in
           let bad = badParameters (x .parameters) in
-          let owners = and-l (goodOwners p (x .owners)) (not bad) (and-r (not (wideKey g)) (goodOwners p (x .owners) && not bad) k) in
-          let all-narrow = and-r apart narrow (and-r many (apart && narrow) (and-r few (many && (apart && narrow)) owners)) in (
-            not-true (wideKey a) (all-in (λ a. not (wideKey a)) a (x .owners) all-narrow e),
-            not-true (wideKey g) (and-l (not (wideKey g)) (goodOwners p (x .owners) && not bad) k),
-            refl,
-          )
+          let owners = and-l (goodOwners p (x .owners)) (not bad) (and-r (not (wideKey g)) (goodOwners p (x .owners) && not bad) (f x refl)) in
+          let all-narrow = and-r apart narrow (and-r many (apart && narrow) (and-r few (many && (apart && narrow)) owners)) in
+          not-true (wideKey a) (all-in (λ a. not (wideKey a)) a (x .owners) all-narrow e)
 
-  -- so an asker and a group as handed over are in range where the one owns the other
-  known : (asker g : ℕ) → owner h (key g) (key asker) ≡ true → (wide asker ≡ false) × (wide g ≡ false) × (stands h (key g) ≡ true)
-  known asker g o = let k = owner-known (key g) (key asker) o in (sym (key-wide asker) ∙ k .0, sym (key-wide g) ∙ k .1, k .2)
+  -- a group that has an owner stands
+  owned-stands : (g a : ℕ) → owner h g a ≡ true → stands h g ≡ true
+  owned-stands g a = subst (λ (w : World). w .owner g a ≡ true → w .stands g ≡ true) (run-agree p laws h) (there (group (run p h) g))
+    where
+      there : (o : Option Group) → mem a (ownersOf o) ≡ true → present o ≡ true
+      there none e = clash (sym e)
+      there (some x) e = refl
 
   -- ---- the demand ----
 
   -- by an owner, with room for the group's radios: the list is accepted, and is exactly the history's
-  pub list-exact : (asker g room : ℕ) → owner h (key g) (key asker) ≡ true → length (radiosIn h (key g)) ≤ room
+  pub list-exact : (asker g : Number) (room : ℕ) → Owns h asker g → length (radiosIn h (key g)) ≤ room
       → (list (run p h) asker g room .refused ≡ none) × Exactly h (key g) (list (run p h) asker g room .entries)
   list-exact asker g room o n =
       subst (λ (l : Listing). (l .refused ≡ none) × Exactly h (key g) (l .entries)) (sym (list-agree p laws h asker g room ∙ told-all))
       (refl, entries-exact h (key g))
     where
       taken : listRefusal (world h) asker g (radiosIn h (key g)) room ≡ none
-      taken = let k = known asker g o in cc (k .0, k .1, k .2, le-ltb room (length (radiosIn h (key g))) n)
+      taken = cc (o .narrowAsker, o .narrowGroup, owned-stands (key g) (key asker) (o .owns), o .owns, le-ltb room (length (radiosIn h (key g))) n)
 
       told-all : listIn h asker g room ≡ record { refused = none; entries = entries (world h) (radiosIn h (key g)) (key g) }
       told-all = λ i. record { refused = taken i; entries = cond (accepted (taken i)) (entries (world h) (radiosIn h (key g)) (key g)) [] }
 
   -- by an owner: the show is accepted, and tells what the history says
-  pub show-exact : (asker g : ℕ) → owner h (key g) (key asker) ≡ true
+  pub show-exact : (asker g : Number) → Owns h asker g
       → (show (run p h) asker g .refused ≡ none) × Tells h (key g) (show (run p h) asker g .owners) (show (run p h) asker g .parameters)
   show-exact asker g o =
       subst (λ (s : Showing). (s .refused ≡ none) × Tells h (key g) (s .owners) (s .parameters)) (sym (show-agree p laws h asker g ∙ told-all)) (
@@ -101,7 +111,7 @@ module _ (p : Placing) (laws : Lawful p) (h : History) where
       )
     where
       taken : showRefusal (world h) asker g ≡ none
-      taken = let k = known asker g o in cc (k .0, k .1, k .2)
+      taken = cc (o .narrowAsker, o .narrowGroup, owned-stands (key g) (key asker) (o .owns), o .owns)
 
       owners : List ℕ
       owners = ownersIn (world h) (namedIn h .owners) (key g)
@@ -112,6 +122,19 @@ module _ (p : Placing) (laws : Lawful p) (h : History) where
         owners = cond (accepted (taken i)) owners [];
         parameters = cond (accepted (taken i)) (world h .parameters (key g)) noParameters;
       }
+
+-- an exact list has radios in range
+pub exact-narrow : (h : History) (g : ℕ) (l : List Entry) → Exactly h g l → (r : ℕ) → mem r (entryRadios l) ≡ true → wideKey r ≡ false
+exact-narrow h g l x r m = radio-narrow byNumber by-number h g r
+    (sym (told-present (mark h g r)) ∙ sym (ap present (x .says r)) ∙ sym (entries-found l r) ∙ m)
+  where
+    told-present : (o : Option Mark) → present (told o) ≡ present o
+    told-present none = refl
+    told-present (some s) = refl
+
+    entries-found : (l : List Entry) (r : ℕ) → mem r (entryRadios l) ≡ present (find eqb l r)
+    entries-found [] r = refl
+    entries-found (e ∷ l) r = split (eqb r (e .0)) (λ q. rw q refl) (λ q. rw q (entries-found l r))
 
 -- only one list is exact
 pub exactly-unique : (h : History) (g : ℕ) (a b : List Entry) → Exactly h g a → Exactly h g b → a ≡ b

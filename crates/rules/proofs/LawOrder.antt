@@ -6,6 +6,7 @@ use mathlib.Core.List.{List, map}
 use Rattle.refusal.specs.Number.{numberOf}
 use Rattle.refusal.specs.declared.Refusal.{Refusal}
 use Rattle.rules.specs.Lists.{rising}
+use Rattle.rules.specs.Number.{Number}
 use Rattle.rules.specs.Order.{Step, define, delete, answer, tick}
 use Rattle.rules.specs.World.{World, Tally}
 use Rattle.rules.specs.Refusals.{tests, listTests}
@@ -20,6 +21,6 @@ tests-rise w t (answer a) = refl
 tests-rise w t tick = refl
 
 -- a show's tests are the first of a list's
-pub list-tests-rise : (w : World) (asker g : ℕ) (radios : List ℕ) (room : ℕ)
+pub list-tests-rise : (w : World) (asker g : Number) (radios : List ℕ) (room : ℕ)
     → rising (numbersOf (listTests w asker g radios room)) ≡ numbersOf (listTests w asker g radios room)
 list-tests-rise w asker g radios room = refl

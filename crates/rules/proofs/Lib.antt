@@ -12,6 +12,7 @@ pub mod PutsByKey
 pub mod Effects
 pub mod Totals
 pub mod Agree
+pub mod Keys
 pub mod Ranges
 pub mod Written
 pub mod Listing
@@ -19,6 +20,7 @@ pub mod Demand
 pub mod Alike
 pub mod Stretches
 pub mod Anew
+pub mod Visitor
 pub mod LawOrder
 pub mod Steps
 pub mod Recorded

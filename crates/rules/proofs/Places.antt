@@ -113,16 +113,20 @@ module _ (t : ℕ) (rest : List Row) where
       ap (λ (x : ℕ). getD (repeated Numbers t p i (suc n) ++ rest) x nothing) e
       ∙ form-rows (p + 4) (i + 1) n j (omega arith) ∙ ap (λ (x : ℕ). choice 2 3 (atLeast t (least Numbers x) ∷ [])) f
 
-  -- their SSIs
-  ssi-rows : (p i n j : ℕ) → j < n → getD (repeated Numbers t p i n ++ rest) (4 * j + 2) nothing ≡ number 24 (atLeast (p + 4 * j) 2 ∷ [])
+  -- a part of theirs, which stands k places behind the form
+  part-rows : (k : ℕ) (part : ℕ → Row) → ((p i n : ℕ) → getD (repeated Numbers t p i (suc n) ++ rest) k nothing ≡ part p)
+      → (p i n j : ℕ) → j < n → getD (repeated Numbers t p i n ++ rest) (4 * j + k) nothing ≡ part (p + 4 * j)
   unfolding repeated
-  ssi-rows p i zero j h = absurd (omega arith)
-  ssi-rows p i (suc n) zero h = let e : p ≡ p + 4 * 0 = omega arith in ap (λ (x : ℕ). number 24 (atLeast x 2 ∷ [])) e
-  ssi-rows p i (suc n) (suc j) h =
-      let e : 4 * suc j + 2 ≡ suc (suc (suc (suc (4 * j + 2)))) = omega arith in
+  part-rows k part first p i zero j h = absurd (omega arith)
+  part-rows k part first p i (suc n) zero h =
+      let e : 4 * 0 + k ≡ k = omega arith in
+      let f : p ≡ p + 4 * 0 = omega arith in
+      ap (λ (x : ℕ). getD (repeated Numbers t p i (suc n) ++ rest) x nothing) e ∙ first p i n ∙ ap part f
+  part-rows k part first p i (suc n) (suc j) h =
+      let e : 4 * suc j + k ≡ suc (suc (suc (suc (4 * j + k)))) = omega arith in
       let f : p + 4 + 4 * j ≡ p + 4 * suc j = omega arith in
       ap (λ (x : ℕ). getD (repeated Numbers t p i (suc n) ++ rest) x nothing) e
-      ∙ ssi-rows (p + 4) (i + 1) n j (omega arith) ∙ ap (λ (x : ℕ). number 24 (atLeast x 2 ∷ [])) f
+      ∙ part-rows k part first (p + 4) (i + 1) n j (omega arith) ∙ ap part f
 
   letter-rows : (p i n j : ℕ) → j < n → getD (repeated Letters t p i n ++ rest) j nothing ≡ number 8 (atLeast t (i + j + 1) ∷ [])
   unfolding repeated
@@ -136,18 +140,29 @@ pub record ListAt (t : ℕ) (hang : List Condition) : Type 0 where
   pub count : rowAt t ≡ choice 4 11 hang
   pub form : (j : ℕ) → j < 10 → rowAt (t + 1 + 4 * j) ≡ choice 2 3 (atLeast t (least Numbers j) ∷ [])
   pub ssi : (j : ℕ) → j < 10 → rowAt (t + 1 + 4 * j + 2) ≡ number 24 (atLeast (t + 1 + 4 * j) 2 ∷ [])
+  pub extension : (j : ℕ) → j < 10 → rowAt (t + 1 + 4 * j + 3) ≡ number 24 (is (t + 1 + 4 * j) 3 ∷ [])
 
 list-at : (t : ℕ) (hang : List Condition) → rowAt t ≡ choice 4 11 hang
     → drop (t + 1) table ≡ repeated Numbers t (t + 1) 0 10 ++ drop (t + 41) table → ListAt t hang
+unfolding repeated
 list-at t hang c d = record {
   count = c;
   form = λ j h. let e : 0 + j ≡ j = omega arith in
       sym (getD-drop (t + 1) table (4 * j) nothing) ∙ ap (λ (l : List Row). getD l (4 * j) nothing) d
       ∙ form-rows t (drop (t + 41) table) (t + 1) 0 10 j h ∙ ap (λ (x : ℕ). choice 2 3 (atLeast t (least Numbers x) ∷ [])) e;
-  ssi = λ j h. let e : t + 1 + 4 * j + 2 ≡ t + 1 + (4 * j + 2) = omega arith in
-      ap rowAt e ∙ sym (getD-drop (t + 1) table (4 * j + 2) nothing) ∙ ap (λ (l : List Row). getD l (4 * j + 2) nothing) d
-      ∙ ssi-rows t (drop (t + 41) table) (t + 1) 0 10 j h;
+  ssi = part 2 (λ x. number 24 (atLeast x 2 ∷ [])) (λ p i n. refl);
+  extension = part 3 (λ x. number 24 (is x 3 ∷ [])) (λ p i n. refl);
 }
+  where
+    rest : List Row
+    rest = drop (t + 41) table
+
+    part : (k : ℕ) (row : ℕ → Row) → ((p i n : ℕ) → getD (repeated Numbers t p i (suc n) ++ rest) k nothing ≡ row p)
+        → (j : ℕ) → j < 10 → rowAt (t + 1 + 4 * j + k) ≡ row (t + 1 + 4 * j)
+    part k row first j h =
+        let e : t + 1 + 4 * j + k ≡ t + 1 + (4 * j + k) = omega arith in
+        ap rowAt e ∙ sym (getD-drop (t + 1) table (4 * j + k) nothing) ∙ ap (λ (l : List Row). getD l (4 * j + k) nothing) d
+        ∙ part-rows t rest k row first (t + 1) 0 10 j h
 
 pub given-at : rowAt groupGiven ≡ choice 1 2 []
 unfolding rows tableOf unrolled rowsOf repeated span spans

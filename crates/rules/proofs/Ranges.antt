@@ -1,7 +1,7 @@
 -- What passed the tests of BadOrder and FormNotTaken is within the ranges of the written form.
 use Prim.Native.Nat.{ℕ, zero, suc, _+_, _≤_, _<_}
 use mathlib.Core.Path.{_≡_, refl, sym, _∙_, ap}
-use mathlib.Core.Bool.{Bool, true, false, not, _&&_}
+use mathlib.Core.Bool.{Bool, true, false, not, _&&_, _||_}
 use mathlib.Core.List.{List, [], _∷_, map}
 use mathlib.Core.Option.{Option, none, some}
 use lib.Dec.{eqb, ltb, leb}
@@ -9,65 +9,76 @@ use lib.ListN.{length, take}
 use native.Mathlib.Omega.{arith}
 use borrow.Author.Tests.{eqb-true, eqb-false, ltb-false, leb-false, le-leb, lt-ltb}
 use Rattle.rules.specs.Lists.{any, mem, once}
-use Rattle.rules.specs.Number.{Identity, Numbers, count, used, key, numbers, numbersIn, wide, wideKey, badIdentity, badList, untaken}
+use Rattle.rules.specs.Number.{Number, Identity, Numbers, count, used, key, plain, identified, numbers, numbersIn}
+use Rattle.rules.specs.Number.{wide, wideNumber, wideKey, badIdentity, badList, untaken}
 use Rattle.rules.specs.Parameters.{Parameters, over, replaced, tooLarge, badName, badParameters}
 use Rattle.rules.specs.Mark.{Mark, waiting, T1, begun, ticked}
 use Rattle.rules.specs.Placing.{Placing, Lawful}
 use Rattle.rules.specs.Written.{goodOwners, maxOwners, goodMark}
-use Rattle.rules.proofs.Tests.{split, clash, and-in, or-l, or-r, not-in}
+use Rattle.rules.proofs.Tests.{split, clash, and-in, or-in, or-l, or-r, not-in}
+use Rattle.rules.proofs.Keys.{key-narrow}
 use Rattle.rules.proofs.ListLaws.{mem-once, once-once, once-same, all-mem, length-once, any-no}
 
 -- ---- numbers ----
 
--- a number is in range where its key is
-pub key-wide : (n : ℕ) → wideKey (key n) ≡ wide n
-key-wide n = refl
+module _ (home : ℕ) where
+  -- the key of an identity in a list
+  abbrev keyOf : Identity → ℕ
+  keyOf i = key (identified home i)
 
--- the key of an identity in a list
-abbrev keyOf : Identity → ℕ
-keyOf i = key (i .ssi)
+  -- a good identity that is no SNA names a number in range, where the asker's extension is
+  identity-narrow : (i : Identity) → wide home ≡ false → badIdentity i ≡ false → eqb (i .form) 0 ≡ false → wideNumber (identified home i) ≡ false
+  identity-narrow i w b f = split (eqb (i .form) 2)
+      (λ e. rw e (or-in (wide (i .ssi)) (wide (i .extension)) ssi (cc (e, extension))))
+      (λ e. rw e (or-in (wide (i .ssi)) (wide home) ssi w))
+    where
+      positive : (n : ℕ) → (n ≡ 0 → ⊥) → 0 < n
+      positive n h = omega arith
 
--- the forms that carry an SSI
-ssi-narrow : (i : Identity) → badIdentity i ≡ false → eqb (i .form) 0 ≡ false → wide (i .ssi) ≡ false
-ssi-narrow i b f = cc (or-r (ltb 2 (i .form)) (ltb 0 (i .form) && wide (i .ssi)) b, lt-ltb 0 (i .form) (positive (i .form) (eqb-false (i .form) 0 f)))
-  where
-    positive : (n : ℕ) → (n ≡ 0 → ⊥) → 0 < n
-    positive n h = omega arith
+      parts : ((ltb 0 (i .form) && wide (i .ssi)) || (eqb (i .form) 2 && wide (i .extension))) ≡ false
+      parts = or-r (ltb 2 (i .form)) _ b
 
-keys-narrow : (l : List Identity) → any badIdentity l ≡ false → any (λ (i : Identity). eqb (i .form) 0) l ≡ false
-    → (x : ℕ) → mem x (map keyOf l) ≡ true → wideKey x ≡ false
-keys-narrow [] b f x e = clash (sym e)
-keys-narrow (i ∷ l) b f x e = split (eqb x (keyOf i))
-    (λ q. ap wideKey (eqb-true x (keyOf i) q) ∙ key-wide (i .ssi)
-    ∙ ssi-narrow i (any-no badIdentity i l b .0) (any-no (λ (i : Identity). eqb (i .form) 0) i l f .0))
-    (λ q. keys-narrow l (any-no badIdentity i l b .1) (any-no (λ (i : Identity). eqb (i .form) 0) i l f .1) x (cc))
+      ssi : wide (i .ssi) ≡ false
+      ssi = cc (or-l (ltb 0 (i .form) && wide (i .ssi)) _ parts, lt-ltb 0 (i .form) (positive (i .form) (eqb-false (i .form) 0 f)))
 
--- a list that passed both has numbers of 24 bits
-pub numbers-narrow : (n : Option Numbers) → badList n ≡ false → untaken n ≡ false → (x : ℕ) → mem x (numbersIn n) ≡ true → wideKey x ≡ false
-unfolding numbers
-numbers-narrow none b u x e = clash (sym e)
-numbers-narrow (some n) b u x e =
-    keys-narrow (used n) (or-r (ltb 10 (n .code)) (any badIdentity (used n)) b)
-    (or-r (eqb (n .code) 1) (any (λ (i : Identity). eqb (i .form) 0) (used n)) u)
-    x (sym (mem-once x (map keyOf (used n))) ∙ e)
+      extension : (eqb (i .form) 2 && wide (i .extension)) ≡ false
+      extension = or-r (ltb 0 (i .form) && wide (i .ssi)) _ parts
 
-length-used : (n : ℕ) (l : List Identity) → length (map keyOf (take n l)) ≤ n
-length-used zero l = omega arith
-length-used (suc n) [] = omega arith
-length-used (suc n) (i ∷ l) = let h = length-used n l in omega arith
+  keys-narrow : (l : List Identity) → wide home ≡ false → any badIdentity l ≡ false → any (λ (i : Identity). eqb (i .form) 0) l ≡ false
+      → (x : ℕ) → mem x (map keyOf l) ≡ true → wideKey x ≡ false
+  keys-narrow [] w b f x e = clash (sym e)
+  keys-narrow (i ∷ l) w b f x e = split (eqb x (keyOf i))
+      (λ q. ap wideKey (eqb-true x (keyOf i) q)
+      ∙ key-narrow (identified home i) (identity-narrow i w (any-no badIdentity i l b .0) (any-no (λ (i : Identity). eqb (i .form) 0) i l f .0)))
+      (λ q. keys-narrow l w (any-no badIdentity i l b .1) (any-no (λ (i : Identity). eqb (i .form) 0) i l f .1) x (cc))
 
--- a list that passed has at most ten numbers
-pub numbers-few : (n : Option Numbers) → badList n ≡ false → length (numbersIn n) ≤ 10
-unfolding numbers
-numbers-few none b = omega arith
-numbers-few (some n) b =
-    let h = few (n .code) (ltb-false 10 (n .code) (or-l (ltb 10 (n .code)) (any badIdentity (used n)) b)) in
-    let a = length-once (map keyOf (used n)) in
-    let u = length-used (count (n .code)) (n .places) in
-    omega arith
-  where
-    few : (c : ℕ) → c ≤ 10 → count c ≤ 10
-    few c h = split (eqb c 0) (λ e. rw e (omega arith)) (λ e. rw e (split (eqb c 1) (λ f. rw f (omega arith)) (λ f. rw f h)))
+  -- a list that passed both has numbers in range
+  pub numbers-narrow : (n : Option Numbers) → wide home ≡ false → badList n ≡ false → untaken n ≡ false
+      → (x : ℕ) → mem x (numbersIn home n) ≡ true → wideKey x ≡ false
+  unfolding numbers
+  numbers-narrow none w b u x e = clash (sym e)
+  numbers-narrow (some n) w b u x e =
+      keys-narrow (used n) w (or-r (ltb 10 (n .code)) (any badIdentity (used n)) b)
+      (or-r (eqb (n .code) 1) (any (λ (i : Identity). eqb (i .form) 0) (used n)) u)
+      x (sym (mem-once x (map keyOf (used n))) ∙ e)
+
+  length-used : (n : ℕ) (l : List Identity) → length (map keyOf (take n l)) ≤ n
+  length-used zero l = omega arith
+  length-used (suc n) [] = omega arith
+  length-used (suc n) (i ∷ l) = let h = length-used n l in omega arith
+
+  -- a list that passed has at most ten numbers
+  pub numbers-few : (n : Option Numbers) → badList n ≡ false → length (numbersIn home n) ≤ 10
+  unfolding numbers
+  numbers-few none b = omega arith
+  numbers-few (some n) b =
+      let h = few (n .code) (ltb-false 10 (n .code) (or-l (ltb 10 (n .code)) (any badIdentity (used n)) b)) in
+      let a = length-once (map keyOf (used n)) in
+      let u = length-used (count (n .code)) (n .places) in
+      omega arith
+    where
+      few : (c : ℕ) → c ≤ 10 → count c ≤ 10
+      few c h = split (eqb c 0) (λ e. rw e (omega arith)) (λ e. rw e (split (eqb c 1) (λ f. rw f (omega arith)) (λ f. rw f h)))
 
 -- ---- owners ----
 

@@ -6,7 +6,7 @@ use mathlib.Core.List.{List, [], _∷_, _++_}
 use mathlib.Core.Option.{some}
 use lib.ListN.{length, getD, replicate}
 use native.Mathlib.Omega.{arith}
-use Rattle.rules.specs.Number.{Identity, numbers}
+use Rattle.rules.specs.Number.{Number, Identity, plain, key, numbers}
 use Rattle.rules.specs.Parameters.{Parameters, noParameters}
 use Rattle.rules.specs.Order.{Define, defineGroups, defineRadios, defineOwners}
 use Rattle.rules.specs.Recorded.{identityAt, identitiesAt, numbersAt, parametersIn, defineOf}
@@ -49,18 +49,23 @@ pub record Says (o : Define) (gs os rs : List ℕ) (requested : Bool) (ps : Para
   pub acknowledgement : o .acknowledgement ≡ requested
   pub parameters : o .parameters ≡ ps
 
-pub with-options : Says (defineOf 1 (places 1)) (5 ∷ []) (1 ∷ 7 ∷ 8 ∷ []) (9 ∷ []) true (record {
-  setReference = some 3;
-  acknowledgedCall = some 0;
-  broadcast = some 1;
-  name = some (65 ∷ 66 ∷ []);
-  class = some 5;
-  lifetime = some 2;
-  temporary = some 6;
-})
-unfolding defineOf numbersAt parametersIn numbers
+-- asker 1 of extension 4, which the plain numbers take
+abbrev ours : ℕ → Number
+ours = plain 4
+
+pub with-options : let owners = key (ours 1) ∷ key (ours 7) ∷ key (plain 100 8) ∷ [] in
+    Says (defineOf (ours 1) (places 1)) (key (ours 5) ∷ []) owners (key (ours 9) ∷ []) true (record {
+      setReference = some 3;
+      acknowledgedCall = some 0;
+      broadcast = some 1;
+      name = some (65 ∷ 66 ∷ []);
+      class = some 5;
+      lifetime = some 2;
+      temporary = some 6;
+    })
+unfolding defineOf numbersAt parametersIn key numbers
 with-options = record { call = refl; groups = refl; owners = refl; radios = refl; acknowledgement = refl; parameters = refl }
 
-pub without-options : Says (defineOf 1 (places 0)) (5 ∷ []) (1 ∷ []) [] false noParameters
-unfolding defineOf numbersAt parametersIn numbers
+pub without-options : Says (defineOf (ours 1) (places 0)) (key (ours 5) ∷ []) (key (ours 1) ∷ []) [] false noParameters
+unfolding defineOf numbersAt parametersIn key numbers
 without-options = record { call = refl; groups = refl; owners = refl; radios = refl; acknowledgement = refl; parameters = refl }

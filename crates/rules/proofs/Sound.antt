@@ -16,7 +16,7 @@ use Rattle.layout.specs.Write.{idle, lay, good, goodButGroup, vals}
 use Rattle.layout.specs.Shape.{number, choice, least}
 use Rattle.layout.specs.Frame.{places, judgedOf}
 use Rattle.rules.specs.Lists.{any}
-use Rattle.rules.specs.Number.{count, used, wide, badIdentity, badList}
+use Rattle.rules.specs.Number.{Number, count, used, wide, wideNumber, badIdentity, badList}
 use Rattle.rules.specs.Parameters.{tooLarge, badName, badParameters}
 use Rattle.rules.specs.Recorded.{groupGiven, groupNumbers, optionsFollow, setReference, ownersIncluded, ownerNumbers, acknowledgedCall, broadcast}
 use Rattle.rules.specs.Recorded.{letterCount, letters, assignment, radioNumbers, classOfUsage, attachmentLifetime, temporaryAssignment}
@@ -129,12 +129,19 @@ module _ (s : List ℕ) (whole : length s ≡ places) (g : all good (lay table [
 
   -- ---- lists ----
 
-  identity-good : (p : ℕ) → getD s p 0 < 4 → (2 ≤ getD s p 0 → getD s (p + 2) 0 < 2 ^ 24) → badIdentity (identityAt s p) ≡ false
-  identity-good p f n = or-in (ltb 2 (getD s p 0 - 1)) (ltb 0 (getD s p 0 - 1) && wide (getD s (p + 2) 0))
-      (le-ltb 2 (getD s p 0 - 1) (omega arith))
-      (split (ltb 0 (getD s p 0 - 1))
-      (λ e. let l = ltb-true 0 (getD s p 0 - 1) e in rw e (lt-leb (2 ^ 24) (getD s (p + 2) 0) (n (omega arith))))
+  identity-good : (p : ℕ) → getD s p 0 < 4 → (2 ≤ getD s p 0 → getD s (p + 2) 0 < 2 ^ 24) → (getD s p 0 ≡ 3 → getD s (p + 3) 0 < 2 ^ 24)
+      → badIdentity (identityAt s p) ≡ false
+  identity-good p f n m =
+      let form = getD s p 0 - 1 in
+      or-in (ltb 2 form) ((ltb 0 form && wide (getD s (p + 2) 0)) || (eqb form 2 && wide (getD s (p + 3) 0)))
+      (le-ltb 2 form (omega arith))
+      (or-in (ltb 0 form && wide (getD s (p + 2) 0)) (eqb form 2 && wide (getD s (p + 3) 0))
+      (split (ltb 0 form)
+      (λ e. let l = ltb-true 0 form e in rw e (lt-leb (2 ^ 24) (getD s (p + 2) 0) (n (omega arith))))
       (λ e. rw e refl))
+      (split (eqb form 2)
+      (λ e. let l = eqb-true form 2 e in rw e (lt-leb (2 ^ 24) (getD s (p + 3) 0) (m (omega arith))))
+      (λ e. rw e refl)))
 
   list-good : (t : ℕ) (hang : List Condition) → t + 41 < places → ListAt t hang → present (take t laid) hang ≡ true → badList (some (numbersAt s t)) ≡ false
   unfolding numbersAt
@@ -152,9 +159,14 @@ module _ (s : List ℕ) (whole : length s ≡ places) (g : all good (lay table [
           let q = t + 1 + 4 * j in
           let there = holds-least q t (least Numbers j) (omega arith) (rw (c .same) h) in
           let f = valued q (choice 2 3 (atLeast t (least Numbers j) ∷ [])) (omega arith) (a .form j i) refl there in
-          identity-good q (let e = f .high in omega arith) (λ m.
+          identity-good q (let e = f .high in omega arith)
+          (λ m.
           let more = holds-least (q + 2) q 2 (omega arith) (rw (f .same) m) in
           let v = valued (q + 2) (number 24 (atLeast q 2 ∷ [])) (omega arith) (a .ssi j i) refl more .high in
+          omega arith)
+          (λ m.
+          let more = holds-is (q + 3) q 3 (omega arith) (f .same ∙ m) in
+          let v = valued (q + 3) (number 24 (is q 3 ∷ [])) (omega arith) (a .extension j i) refl more .high in
           omega arith)
 
   -- ---- the name ----
@@ -226,7 +238,7 @@ module _ (s : List ℕ) (whole : length s ≡ places) (g : all good (lay table [
       let yes = valued groupGiven (choice 1 2 []) (omega arith) given-at refl (always groupGiven) .same ∙ eqb-true (getD s groupGiven 0) 1 y in
       list-good groupNumbers (is groupGiven 1 ∷ []) (omega arith) groups-at (holds-is groupNumbers groupGiven 1 (omega arith) yes))
 
-  values-good : (asker : ℕ) → badValues (defineOf asker s) ≡ false
+  values-good : (asker : Number) → badValues (defineOf asker s) ≡ false
   unfolding defineOf
   values-good asker =
       or-in (badList (listed s (saysYes s groupGiven) groupNumbers)) _ groups-good
@@ -237,15 +249,15 @@ module _ (s : List ℕ) (whole : length s ≡ places) (g : all good (lay table [
       parameters-good))
 
 -- what the frame half does not refuse, `badValues` does not either
-pub sound : (asker : ℕ) (s : List ℕ) → length s ≡ places → refuses (judgedOf kind.Define s) ≡ false → badValues (defineOf asker s) ≡ false
+pub sound : (asker : Number) (s : List ℕ) → length s ≡ places → refuses (judgedOf kind.Define s) ≡ false → badValues (defineOf asker s) ≡ false
 unfolding judgedOf
 sound asker s whole w = split (all good (lay table [] s))
     (λ g. values-good s whole g asker)
     (λ g. split (all goodButGroup (lay table [] s)) (λ e. clash (rw (g, e) at w)) (λ e. clash (rw (g, e) at w)))
 
 -- so a define's BadOrder is an asker above 24 bits, or a record that the writer refuses
-pub bad-order : (asker : ℕ) (s : List ℕ) → length s ≡ places
-    → (wide asker || (refuses (judgedOf kind.Define s) || badValues (defineOf asker s))) ≡ (wide asker || refuses (judgedOf kind.Define s))
-bad-order asker s whole = ap (λ (b : Bool). wide asker || b) (split (refuses (judgedOf kind.Define s))
+pub bad-order : (asker : Number) (s : List ℕ) → length s ≡ places
+    → (wideNumber asker || (refuses (judgedOf kind.Define s) || badValues (defineOf asker s))) ≡ (wideNumber asker || refuses (judgedOf kind.Define s))
+bad-order asker s whole = ap (λ (b : Bool). wideNumber asker || b) (split (refuses (judgedOf kind.Define s))
     (λ r. rw r refl)
     (λ r. rw (r, sound asker s whole r) refl))

@@ -9,7 +9,7 @@ use lib.ListN.{length}
 use borrow.Author.Tests.{eqb-true}
 use Rattle.rules.specs.Lists.{keep, present, sum}
 use Rattle.rules.specs.Entries.{find}
-use Rattle.rules.specs.Number.{Identity, Numbers, used, key, numbers, numbersIn}
+use Rattle.rules.specs.Number.{Identity, Numbers, used, key, identified, numbers, numbersIn}
 use Rattle.rules.specs.Mark.{Mark, begun}
 use Rattle.rules.specs.Order.{Define, define, defineGroups, defineRadios}
 use Rattle.rules.specs.Effect.{Effect, effect}
@@ -23,10 +23,10 @@ use Rattle.rules.proofs.Puts.{length-puts}
 use Rattle.rules.proofs.Effects.{Standing}
 
 -- the numbers of an order's list stand once each
-pub numbers-once : (n : Option Numbers) → Once (numbersIn n)
+pub numbers-once : (home : ℕ) (n : Option Numbers) → Once (numbersIn home n)
 unfolding numbers
-numbers-once none = tt
-numbers-once (some n) = once-once (map (λ (i : Identity). key (i .ssi)) (used n))
+numbers-once home none = tt
+numbers-once home (some n) = once-once (map (λ (i : Identity). key (identified home i)) (used n))
 
 module _ (p : Placing) (laws : Lawful p) (l : Ledger) (s : Standing p l) (o : Define) (room : ℕ) where
   abbrev e : Effect
@@ -55,12 +55,12 @@ module _ (p : Placing) (laws : Lawful p) (l : Ledger) (s : Standing p l) (o : De
   define-groups-total =
       ap length made
       ∙ length-puts eqb eqb-true eqb-same (p .groups) (laws .groups) (l .groups) (defineGroups o)
-      (λ g. groupAfter (e .keeps) (given p e) (group l g)) (s .groups) (numbers-once (o .groups))
+      (λ g. groupAfter (e .keeps) (given p e) (group l g)) (s .groups) (numbers-once (o .asker .extension) (o .groups))
 
   pub define-pairs-total : length (apply p l (effect (view l) (define o room)) .pairs)
       ≡ length (l .pairs) + sum (λ g. length (keep (λ r. not (present (find samePair (l .pairs) (g, r)))) (defineRadios o))) (defineGroups o)
   define-pairs-total =
       ap length set
       ∙ length-puts samePair pair-sound pair-itself (p .pairs) (laws .pairs) (l .pairs) pairs (λ k. begun (o .acknowledgement)) (s .pairs)
-      (product-apart (defineGroups o) (defineRadios o) (numbers-once (o .groups)) (numbers-once (o .radios)))
+      (product-apart (defineGroups o) (defineRadios o) (numbers-once (o .asker .extension) (o .groups)) (numbers-once (o .asker .extension) (o .radios)))
       ∙ ap (λ (n : ℕ). length (l .pairs) + n) (length-product (λ k. not (present (find samePair (l .pairs) k))) (defineGroups o) (defineRadios o))

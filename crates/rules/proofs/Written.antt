@@ -10,7 +10,7 @@ use borrow.Author.Tests.{eqb-true, ltb-false, leb-true, le-leb, not-true}
 use Rattle.refusal.specs.declared.Refusal.{Refusal}
 use Rattle.rules.specs.Lists.{any, all, present, turned, mem}
 use Rattle.rules.specs.Entries.{find}
-use Rattle.rules.specs.Number.{key, wide, wideKey, badList, untaken, numbersIn}
+use Rattle.rules.specs.Number.{key, wide, wideNumber, wideKey, badList, untaken, numbersIn}
 use Rattle.rules.specs.Parameters.{noParameters, replaced, badParameters}
 use Rattle.rules.specs.Mark.{Mark, fresh, confirmed, ticked}
 use Rattle.rules.specs.Order.{Define, Delete, Answer, Step, define, delete, answer, tick, defineGroups, deleteGroups, leaves}
@@ -28,7 +28,8 @@ use Rattle.rules.proofs.ListLaws.{eqb-same}
 use Rattle.rules.proofs.EntryLaws.{found-all, all-found, length-alter}
 use Rattle.rules.proofs.Pairs.{pair-sound, pair-itself}
 use Rattle.rules.proofs.Effects.{Standing, groups-single, pairs-single, standing-apply, group-after, mark-after}
-use Rattle.rules.proofs.Ranges.{key-wide, numbers-narrow, numbers-few, owners-good, replaced-good, begun-good, ticked-good}
+use Rattle.rules.proofs.Keys.{key-narrow}
+use Rattle.rules.proofs.Ranges.{numbers-narrow, numbers-few, owners-good, replaced-good, begun-good, ticked-good}
 
 -- ---- the form, by what is found ----
 
@@ -192,7 +193,7 @@ module _ (p : Placing) (laws : Lawful p) (l : Ledger) (f : Form p l) (e : Effect
 -- ---- the steps ----
 
 -- a refusal test that was passed
-passed : (r : Refusal) (b : Bool) (k : Option Refusal) → cond b (some r) k ≡ none → (b ≡ false) × (k ≡ none)
+pub passed : (r : Refusal) (b : Bool) (k : Option Refusal) → cond b (some r) k ≡ none → (b ≡ false) × (k ≡ none)
 passed r true k e = clash (cc)
 passed r false k e = (refl, e)
 
@@ -204,14 +205,15 @@ module _ (p : Placing) (laws : Lawful p) where
   define-fit : (l : Ledger) (o : Define) (room : ℕ) → refused p l (define o room) ≡ none → Fit p l (effect (view l) (define o room))
   define-fit l o room e =
       let l′ = apply p l (effect (view l) (define o room)) in
-      let bad = passed _ (wide (o .asker) || (refuses (o .judged) || badValues o)) _ e in
+      let bad = passed _ (wideNumber (o .asker) || (refuses (o .judged) || badValues o)) _ e in
       let form = passed _ (o .call || (untaken (o .groups) || (untaken (o .owners) || untaken (o .radios)))) _ (bad .1) in
       let owned = passed _ (any (λ g. view l .stands g && not (view l .owner g (key (o .asker)))) (defineGroups o)) _ (form .1) in
       let manyGroups = ltb maxGroups (length (l′ .groups)) in
       let manyPairs = ltb maxPairs (length (l′ .pairs)) in
       let full = passed _ (manyGroups || manyPairs) _ (owned .1) in
-      let asker = or-l (wide (o .asker)) (refuses (o .judged) || badValues o) (bad .0) in
-      let b₁ = or-r (refuses (o .judged)) (badValues o) (or-r (wide (o .asker)) (refuses (o .judged) || badValues o) (bad .0)) in
+      let asker = or-l (wideNumber (o .asker)) (refuses (o .judged) || badValues o) (bad .0) in
+      let home = or-r (wide (o .asker .ssi)) (wide (o .asker .extension)) asker in
+      let b₁ = or-r (refuses (o .judged)) (badValues o) (or-r (wideNumber (o .asker)) (refuses (o .judged) || badValues o) (bad .0)) in
       let b₂ = or-r (badList (o .groups)) (badList (o .owners) || (badList (o .radios) || badParameters (o .parameters))) b₁ in
       let b₃ = or-r (badList (o .owners)) (badList (o .radios) || badParameters (o .parameters)) b₂ in
       let u₁ = or-r (o .call) (untaken (o .groups) || (untaken (o .owners) || untaken (o .radios))) (form .0) in
@@ -219,13 +221,15 @@ module _ (p : Placing) (laws : Lawful p) where
       let badOwners = or-l (badList (o .owners)) (badList (o .radios) || badParameters (o .parameters)) b₂ in
       record {
         makes = λ g k. (
-          numbers-narrow (o .groups) (or-l (badList (o .groups)) (badList (o .owners) || (badList (o .radios) || badParameters (o .parameters))) b₁)
+          numbers-narrow (o .asker .extension) (o .groups) home
+              (or-l (badList (o .groups)) (badList (o .owners) || (badList (o .radios) || badParameters (o .parameters))) b₁)
               (or-l (untaken (o .groups)) (untaken (o .owners) || untaken (o .radios)) u₁) g k,
-          owners-good p laws (key (o .asker)) (numbersIn (o .owners)) (key-wide (o .asker) ∙ asker) (numbers-few (o .owners) badOwners)
-              (numbers-narrow (o .owners) badOwners (or-l (untaken (o .owners)) (untaken (o .radios)) u₂)),
+          owners-good p laws (key (o .asker)) (numbersIn (o .asker .extension) (o .owners)) (key-narrow (o .asker) asker)
+              (numbers-few (o .asker .extension) (o .owners) badOwners)
+              (numbers-narrow (o .asker .extension) (o .owners) home badOwners (or-l (untaken (o .owners)) (untaken (o .radios)) u₂)),
         );
         parameters = or-r (badList (o .radios)) (badParameters (o .parameters)) b₃;
-        assigns = numbers-narrow (o .radios) (or-l (badList (o .radios)) (badParameters (o .parameters)) b₃)
+        assigns = numbers-narrow (o .asker .extension) (o .radios) home (or-l (badList (o .radios)) (badParameters (o .parameters)) b₃)
             (or-r (untaken (o .owners)) (untaken (o .radios)) u₂);
         begins = begun-good (o .acknowledgement);
         turns = λ g r m m′ h k. let q : m ≡ m′ = cc in sym (ap goodMark q) ∙ h;

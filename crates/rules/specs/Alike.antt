@@ -5,6 +5,7 @@ use Prim.Native.Nat.{ℕ}
 use mathlib.Core.Path.{_≡_}
 use mathlib.Core.Bool.{true}
 use lib.ListN.{length}
+use Rattle.rules.specs.Number.{Number}
 use Rattle.rules.specs.Order.{Step}
 use Rattle.rules.specs.Ledger.{view, list, show}
 use Rattle.rules.specs.Placing.{Placing}
@@ -21,8 +22,8 @@ pub record Alike (old new : Placing) (h : History) : Type 0 where
   -- every further step is refused alike, and sends the same orders; every list and every show is the same, refused ones too
   pub refuses : (s : Step) → refused new (run new h) s ≡ refused old (run old h) s
   pub sends : (s : Step) → sent new (run new h) s ≡ sent old (run old h) s
-  pub lists : (asker g room : ℕ) → list (run new h) asker g room ≡ list (run old h) asker g room
-  pub shows : (asker g : ℕ) → show (run new h) asker g ≡ show (run old h) asker g
+  pub lists : (asker g : Number) (room : ℕ) → list (run new h) asker g room ≡ list (run old h) asker g room
+  pub shows : (asker g : Number) → show (run new h) asker g ≡ show (run old h) asker g
   -- each layout is in its own written form
   pub formOld : written old (run old h) ≡ true
   pub formNew : written new (run new h) ≡ true

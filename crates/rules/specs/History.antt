@@ -4,7 +4,7 @@ use mathlib.Core.Bool.{Bool, cond}
 use mathlib.Core.List.{List, [], _++_}
 use mathlib.Core.Option.{Option}
 use Rattle.refusal.specs.declared.Refusal.{Refusal}
-use Rattle.rules.specs.Number.{key}
+use Rattle.rules.specs.Number.{Number, key}
 use Rattle.rules.specs.Mark.{Mark}
 use Rattle.rules.specs.Order.{Step}
 use Rattle.rules.specs.World.{World, nothing, membersIn, ownersIn, groupTotal, pairTotal, Tally}
@@ -92,8 +92,8 @@ sentIn h s = cond (accepted (refusalIn h s))
     (outgoing (world h) (tallyIn (world h) (namedIn (h then s)) (effect (world h) s)) s)
     []
 
-abbrev pub listIn : History → ℕ → ℕ → ℕ → Listing
+abbrev pub listIn : History → Number → Number → ℕ → Listing
 listIn h asker g room = listing (world h) asker g (radiosIn h (key g)) room
 
-abbrev pub showIn : History → ℕ → ℕ → Showing
+abbrev pub showIn : History → Number → Number → Showing
 showIn h asker g = showing (world h) asker g (ownersIn (world h) (namedIn h .owners) (key g))

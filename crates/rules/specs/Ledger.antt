@@ -6,7 +6,7 @@ use mathlib.Core.Option.{Option, none, some}
 use lib.Dec.{eqb}
 use Rattle.rules.specs.Lists.{present, mem, rising}
 use Rattle.rules.specs.Entries.{find}
-use Rattle.rules.specs.Number.{key}
+use Rattle.rules.specs.Number.{Number, key}
 use Rattle.rules.specs.Parameters.{Parameters, noParameters}
 use Rattle.rules.specs.Mark.{Mark}
 use Rattle.rules.specs.World.{World}
@@ -61,8 +61,8 @@ members l g = rising (radiosOf g (l .pairs))
 
 -- ---- the orders that change nothing, for any arguments ----
 
-abbrev pub list : Ledger → ℕ → ℕ → ℕ → Listing
+abbrev pub list : Ledger → Number → Number → ℕ → Listing
 list l asker g room = listing (view l) asker g (members l (key g)) room
 
-abbrev pub show : Ledger → ℕ → ℕ → Showing
+abbrev pub show : Ledger → Number → Number → Showing
 show l asker g = showing (view l) asker g (rising (ownersOf (group l (key g))))

@@ -23,3 +23,4 @@ pub mod Written
 pub mod Demand
 pub mod Alike
 pub mod Stretches
+pub mod Visitor

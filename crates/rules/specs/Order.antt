@@ -1,17 +1,17 @@
--- The orders of document 01: define, delete, answer and tick. They hold numbers as handed over.
+-- The orders of document 01: define, delete, answer and tick. They hold numbers as handed over, "asker and answering radio .. with theirs".
 use Prim.Native.Nat.{ℕ}
 use mathlib.Core.Bool.{Bool, true, cond, _&&_, _||_}
 use mathlib.Core.List.{List, _∷_}
 use mathlib.Core.Option.{Option}
 use Rattle.layout.specs.declared.Judged.{Judged}
 use Rattle.rules.specs.Lists.{present, mem, once}
-use Rattle.rules.specs.Number.{Numbers, key, numbers, numbersIn}
+use Rattle.rules.specs.Number.{Number, Numbers, key, numbers, numbersIn}
 use Rattle.rules.specs.Parameters.{Parameters}
 
 -- judged: what the frame half says of the DEFINE record. call: call related.
 -- A list is none where it is absent, or where its element says "no".
 pub record Define : Type 0 where
-  pub asker : ℕ
+  pub asker : Number
   pub judged : Judged
   pub call : Bool
   pub groups : Option Numbers
@@ -22,15 +22,15 @@ pub record Define : Type 0 where
 
 -- radios: none where none are listed
 pub record Delete : Type 0 where
-  pub asker : ℕ
+  pub asker : Number
   pub groups : Numbers
   pub delete : Bool
   pub deassign : Bool
   pub radios : Option Numbers
 
 pub record Answer : Type 0 where
-  pub radio : ℕ
-  pub group : ℕ
+  pub radio : Number
+  pub group : Number
   pub result : ℕ
 
 -- an order that may change the ledger; the number is the room lent, in outgoing orders
@@ -43,21 +43,21 @@ pub data Step : Type 0 where
 -- ---- the keys that an order names ----
 
 abbrev pub defineGroups : Define → List ℕ
-defineGroups o = numbersIn (o .groups)
+defineGroups o = numbersIn (o .asker .extension) (o .groups)
 
 -- those of "assign"
 abbrev pub defineRadios : Define → List ℕ
-defineRadios o = numbersIn (o .radios)
+defineRadios o = numbersIn (o .asker .extension) (o .radios)
 
 -- "asker plus those listed"
 abbrev pub defineOwners : Define → List ℕ
-defineOwners o = once (key (o .asker) ∷ numbersIn (o .owners))
+defineOwners o = once (key (o .asker) ∷ numbersIn (o .asker .extension) (o .owners))
 
 abbrev pub deleteGroups : Delete → List ℕ
-deleteGroups o = numbers (o .groups)
+deleteGroups o = numbers (o .asker .extension) (o .groups)
 
 abbrev pub deleteRadios : Delete → List ℕ
-deleteRadios o = numbersIn (o .radios)
+deleteRadios o = numbersIn (o .asker .extension) (o .radios)
 
 -- "listed radios .. or all members if none are listed"
 abbrev pub deassigns : Delete → ℕ → Bool

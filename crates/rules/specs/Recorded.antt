@@ -7,7 +7,7 @@ use lib.Dec.{eqb}
 use lib.ListN.{getD, take, drop}
 use Rattle.layout.specs.Frame.{judgedOf}
 use Rattle.layout.specs.declared.Kind.the-variants as kind
-use Rattle.rules.specs.Number.{Identity, Numbers}
+use Rattle.rules.specs.Number.{Number, Identity, Numbers}
 use Rattle.rules.specs.Parameters.{Parameters}
 use Rattle.rules.specs.Order.{Define}
 
@@ -119,7 +119,7 @@ module _ (places : List ℕ) where
     temporary = optionalNumber temporaryAssignment;
   }
 
-unfoldable pub defineOf : ℕ → List ℕ → Define
+unfoldable pub defineOf : Number → List ℕ → Define
 defineOf asker places = record {
   asker = asker;
   judged = judgedOf kind.Define places;

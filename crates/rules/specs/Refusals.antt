@@ -12,7 +12,7 @@ use Rattle.refusal.specs.declared.Refusal.the-variants.{BadOrder, FormNotTaken,
 use Rattle.layout.specs.declared.Judged.{Judged}
 use Rattle.layout.specs.declared.Judged.the-variants.{Writable, Refused}
 use Rattle.rules.specs.Lists.{any, present}
-use Rattle.rules.specs.Number.{key, wide, badList, untaken}
+use Rattle.rules.specs.Number.{Number, key, wideNumber, badList, untaken}
 use Rattle.rules.specs.Parameters.{badParameters}
 use Rattle.rules.specs.Mark.{open?}
 use Rattle.rules.specs.Order.{Define, Step, define, delete, answer, tick, defineGroups, deleteGroups}
@@ -52,14 +52,14 @@ badValues o = badList (o .groups) || (badList (o .owners) || (badList (o .radios
 
 abbrev pub tests : World → Tally → Step → List (Refusal × Bool)
 tests w t (define o room) =
-    (BadOrder, wide (o .asker) || (refuses (o .judged) || badValues o))
+    (BadOrder, wideNumber (o .asker) || (refuses (o .judged) || badValues o))
     ∷ (FormNotTaken, o .call || (untaken (o .groups) || (untaken (o .owners) || untaken (o .radios))))
     ∷ (NotOwner, any (λ g. w .stands g && not (w .owner g (key (o .asker)))) (defineGroups o))
     ∷ (Full, ltb maxGroups (t .groups) || ltb maxPairs (t .pairs))
     ∷ (NoRoom, ltb room (length (outgoing w t (define o room))))
     ∷ []
 tests w t (delete o room) =
-    (BadOrder, wide (o .asker) || (badList (some (o .groups)) || (badList (o .radios) || (present (o .radios) && not (o .deassign)))))
+    (BadOrder, wideNumber (o .asker) || (badList (some (o .groups)) || (badList (o .radios) || (present (o .radios) && not (o .deassign)))))
     ∷ (FormNotTaken, untaken (some (o .groups)) || untaken (o .radios))
     ∷ (NoSuchGroup, any (λ g. not (w .stands g)) (deleteGroups o))
     ∷ (NotOwner, any (λ g. not (w .owner g (key (o .asker)))) (deleteGroups o))
@@ -67,7 +67,7 @@ tests w t (delete o room) =
     ∷ (NoRoom, ltb room (length (outgoing w t (delete o room))))
     ∷ []
 tests w t (answer a) =
-    (BadOrder, wide (a .radio) || (wide (a .group) || (eqb (a .result) 0 || ltb 4 (a .result))))
+    (BadOrder, wideNumber (a .radio) || (wideNumber (a .group) || (eqb (a .result) 0 || ltb 4 (a .result))))
     ∷ (NoSuchGroup, not (w .stands (key (a .group))))
     ∷ (NotOpen, not (open? (w .mark (key (a .group)) (key (a .radio)))))
     ∷ []
@@ -78,19 +78,19 @@ refusal w t s = first (tests w t s)
 
 -- ---- list and show: an asker, a group, as handed over ----
 
-abbrev pub askTests : World → ℕ → ℕ → List (Refusal × Bool)
+abbrev pub askTests : World → Number → Number → List (Refusal × Bool)
 askTests w asker g =
-    (BadOrder, wide asker || wide g)
+    (BadOrder, wideNumber asker || wideNumber g)
     ∷ (NoSuchGroup, not (w .stands (key g)))
     ∷ (NotOwner, not (w .owner (key g) (key asker)))
     ∷ []
 
-abbrev pub showRefusal : World → ℕ → ℕ → Option Refusal
+abbrev pub showRefusal : World → Number → Number → Option Refusal
 showRefusal w asker g = first (askTests w asker g)
 
 -- with the radios that the list would hold, and the room for them
-abbrev pub listTests : World → ℕ → ℕ → List ℕ → ℕ → List (Refusal × Bool)
+abbrev pub listTests : World → Number → Number → List ℕ → ℕ → List (Refusal × Bool)
 listTests w asker g radios room = askTests w asker g ++ ((NoRoom, ltb room (length radios)) ∷ [])
 
-abbrev pub listRefusal : World → ℕ → ℕ → List ℕ → ℕ → Option Refusal
+abbrev pub listRefusal : World → Number → Number → List ℕ → ℕ → Option Refusal
 listRefusal w asker g radios room = first (listTests w asker g radios room)

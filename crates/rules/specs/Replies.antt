@@ -4,7 +4,7 @@ use mathlib.Core.Bool.{cond}
 use mathlib.Core.List.{List, [], map}
 use mathlib.Core.Option.{Option}
 use Rattle.refusal.specs.declared.Refusal.{Refusal}
-use Rattle.rules.specs.Number.{key}
+use Rattle.rules.specs.Number.{Number, key}
 use Rattle.rules.specs.Parameters.{Parameters, noParameters}
 use Rattle.rules.specs.Mark.{stateOf}
 use Rattle.rules.specs.World.{World}
@@ -23,7 +23,7 @@ pub record Listing : Type 0 where
   pub entries : List Entry
 
 -- radios: those of the group, rising
-abbrev pub listing : World → ℕ → ℕ → List ℕ → ℕ → Listing
+abbrev pub listing : World → Number → Number → List ℕ → ℕ → Listing
 listing w asker g radios room = record {
   refused = listRefusal w asker g radios room;
   entries = cond (accepted (listRefusal w asker g radios room)) (entries w radios (key g)) [];
@@ -36,7 +36,7 @@ pub record Showing : Type 0 where
   pub parameters : Parameters
 
 -- owners: those of the group, rising
-abbrev pub showing : World → ℕ → ℕ → List ℕ → Showing
+abbrev pub showing : World → Number → Number → List ℕ → Showing
 showing w asker g owners = record {
   refused = showRefusal w asker g;
   owners = cond (accepted (showRefusal w asker g)) owners [];
