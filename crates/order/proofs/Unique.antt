@@ -4,8 +4,10 @@ use mathlib.Core.Path.{sym, _∙_}
 pub use Rattle.table.proofs.Unique.{Unique}
 use Rattle.order.proofs.lists.member.Kinds as member-kinds
 use Rattle.order.proofs.lists.member.Reads as member
-use Rattle.order.proofs.lists.wide.Kinds as wide-kinds
-use Rattle.order.proofs.lists.wide.Reads as wide
+use Rattle.order.proofs.lists.wide_radio.Kinds as wide-radio-kinds
+use Rattle.order.proofs.lists.wide_radio.Reads as wide-radio
+use Rattle.order.proofs.lists.wide_group.Kinds as wide-group-kinds
+use Rattle.order.proofs.lists.wide_group.Reads as wide-group
 use Rattle.order.proofs.lists.used_count.Kinds as used-count-kinds
 use Rattle.order.proofs.lists.used_count.Reads as used-count
 use Rattle.order.proofs.lists.bad_list.Kinds as bad-list-kinds
@@ -16,6 +18,12 @@ use Rattle.order.proofs.keys.group_key.Kinds as group-key-kinds
 use Rattle.order.proofs.keys.group_key.Reads as group-key
 use Rattle.order.proofs.keys.radio_key.Kinds as radio-key-kinds
 use Rattle.order.proofs.keys.radio_key.Reads as radio-key
+use Rattle.order.proofs.keys.group_of.Kinds as group-of-kinds
+use Rattle.order.proofs.keys.group_of.Reads as group-of
+use Rattle.order.proofs.keys.radio_of.Kinds as radio-of-kinds
+use Rattle.order.proofs.keys.radio_of.Reads as radio-of
+use Rattle.order.proofs.keys.asked_group.Kinds as asked-group-kinds
+use Rattle.order.proofs.keys.asked_group.Reads as asked-group
 use Rattle.order.proofs.keys.groups_in.Kinds as groups-in-kinds
 use Rattle.order.proofs.keys.groups_in.Reads as groups-in
 use Rattle.order.proofs.keys.radios_in.Kinds as radios-in-kinds
@@ -44,8 +52,11 @@ use Rattle.order.proofs.row.order_row.Reads as order-row
 pub member-unique : Unique member-kinds.ps member-kinds.r member.Post
 member-unique κs a r r′ s s′ p q = p ∙ sym q
 
-pub wide-unique : Unique wide-kinds.ps wide-kinds.r wide.Post
-wide-unique κs a r r′ s s′ p q = p ∙ sym q
+pub wide-radio-unique : Unique wide-radio-kinds.ps wide-radio-kinds.r wide-radio.Post
+wide-radio-unique κs a r r′ s s′ p q = p ∙ sym q
+
+pub wide-group-unique : Unique wide-group-kinds.ps wide-group-kinds.r wide-group.Post
+wide-group-unique κs a r r′ s s′ p q = p ∙ sym q
 
 pub used-count-unique : Unique used-count-kinds.ps used-count-kinds.r used-count.Post
 used-count-unique κs a r r′ s s′ p q = p ∙ sym q
@@ -61,6 +72,15 @@ group-key-unique κs a r r′ s s′ p q = λ i. record { 0 = (p ∙ sym q) i }
 
 pub radio-key-unique : Unique radio-key-kinds.ps radio-key-kinds.r radio-key.Post
 radio-key-unique κs a r r′ s s′ p q = λ i. record { 0 = (p ∙ sym q) i }
+
+pub group-of-unique : Unique group-of-kinds.ps group-of-kinds.r group-of.Post
+group-of-unique κs a r r′ s s′ p q = p ∙ sym q
+
+pub radio-of-unique : Unique radio-of-kinds.ps radio-of-kinds.r radio-of.Post
+radio-of-unique κs a r r′ s s′ p q = p ∙ sym q
+
+pub asked-group-unique : Unique asked-group-kinds.ps asked-group-kinds.r asked-group.Post
+asked-group-unique κs a r r′ s s′ p q = p ∙ sym q
 
 pub groups-in-unique : Unique groups-in-kinds.ps groups-in-kinds.r groups-in.Post
 groups-in-unique κs a r r′ s s′ p q = p ∙ sym q

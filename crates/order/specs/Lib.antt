@@ -1,5 +1,6 @@
 -- The definitions that the contracts of an order's lists and row cite.
 pub mod Walks
+pub mod Numbers
 pub mod Lists
 pub mod Keys
 pub mod Rising

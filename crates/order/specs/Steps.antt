@@ -4,6 +4,7 @@ use mathlib.Core.Bool.{Bool}
 use mathlib.Core.List.{List}
 use Rattle.rules.specs.Order.{Step, define, delete, answer}
 use Rattle.rules.specs.Recorded.{defineOf}
+use Rattle.order.specs.Numbers.{radioNumber, groupNumber}
 use Rattle.order.specs.Lists.{numbersOf, listOf}
 use Rattle.order.specs.declared.Gtsi.{Gtsi}
 use Rattle.order.specs.declared.Itsi.{Itsi}
@@ -11,11 +12,11 @@ use Rattle.order.specs.declared.Numbers.{Numbers}
 use Rattle.order.specs.declared.Listed.{Listed}
 
 abbrev pub defineStep : Itsi → List ℕ → ℕ → Step
-defineStep asker places room = define (defineOf (asker .0) places) room
+defineStep asker places room = define (defineOf (radioNumber asker) places) room
 
 abbrev pub deleteStep : Itsi → Numbers → Bool → Bool → Listed → ℕ → Step
 deleteStep asker groups remove deassign radios room =
-    delete (record { asker = asker .0; groups = numbersOf groups; delete = remove; deassign = deassign; radios = listOf radios }) room
+    delete (record { asker = radioNumber asker; groups = numbersOf groups; delete = remove; deassign = deassign; radios = listOf radios }) room
 
 abbrev pub answerStep : Itsi → Gtsi → ℕ → Step
-answerStep radio group result = answer (record { radio = radio .0; group = group .0; result = result })
+answerStep radio group result = answer (record { radio = radioNumber radio; group = groupNumber group; result = result })

@@ -1,4 +1,5 @@
 // The keys of an order's numbers, made here and nowhere else.
+use crate::GroupAsked;
 use crate::GroupKey;
 use crate::Groups;
 use crate::Gtsi;
@@ -22,43 +23,94 @@ ghost use mathlib.Core.Bool.{not};
 ghost use mathlib.Core.List.{[], _∷_};
 ghost use mathlib.Core.Path.{_≡_};
 ghost use Rattle.rules.specs.Lists.{keep, inOrder, rising};
-ghost use Rattle.rules.specs.Number.{key, numbers, numbersIn};
+ghost use Rattle.rules.specs.Number.{key, plain, ssiOf, extensionOf, identified, numbers, numbersIn};
 ghost use Rattle.rows.specs.Layout.{maxListed};
 ghost use Rattle.order.specs.Keys.{keysAs, groupsAs, radiosAs, ownersAs, groupKeys, radioKeys, ownersHeld};
-ghost use Rattle.order.specs.Lists.{numbersAs, listOf};
+ghost use Rattle.order.specs.Lists.{identityOf, numbersAs, listOf};
+ghost use Rattle.order.specs.Numbers.{radioNumber, groupNumber, radioAt, groupAt, askedGroup};
 
-// A number as the ledger knows it: for now the SSI alone.
-fn key(number: u64) -> u64
-    ensures { λ r. ⌜ r ≡ key number ⌝ }
+// The keys of one extension.
+const EXTENSION_KEYS: u64 = 0x100_0000;
+
+// A number as the ledger knows it: its extension, then its SSI.
+fn key(ssi: u32, extension: u32) -> u64
+    ensures { λ r. ⌜ r ≡ key (plain extension ssi) ⌝ }
 {
-    number
+    extension as u64 * EXTENSION_KEYS + ssi as u64
 }
 
 // The key of a group's number.
 pub fn group_key(group: Gtsi) -> GroupKey
-    ensures { λ r. ⌜ r .0 ≡ key (group .0) ⌝ }
+    ensures { λ r. ⌜ r .0 ≡ key (groupNumber group) ⌝ }
 {
-    GroupKey(key(group.0))
+    GroupKey(key(group.0, group.1))
 }
 
 // The key of a radio's number.
 pub fn radio_key(radio: Itsi) -> RadioKey
-    ensures { λ r. ⌜ r .0 ≡ key (radio .0) ⌝ }
+    ensures { λ r. ⌜ r .0 ≡ key (radioNumber radio) ⌝ }
 {
-    RadioKey(key(radio.0))
+    RadioKey(key(radio.0, radio.1))
 }
 
-// The keys of a list, each once, at its first place.
-fn keys_of(code: u64, identity: [Identity; MAX_LISTED]) -> KeyList
-    ensures { λ r. ⌜ r ≡ keysAs (numbers (numbersAs code identity)) ⌝ }
+// The SSI of a key.
+fn ssi_of(key: u64) -> u32
+    ensures { λ r. ⌜ r ≡ ssiOf key ⌝ }
+{
+    (key % EXTENSION_KEYS) as u32
+}
+
+// The extension of a key.
+fn extension_of(key: u64) -> u32
+    ensures { λ r. ⌜ r ≡ extensionOf key ⌝ }
+{
+    (key / EXTENSION_KEYS % EXTENSION_KEYS) as u32
+}
+
+// A group's number, both parts.
+pub fn group_of(group: GroupKey) -> Gtsi
+    ensures { λ r. ⌜ r ≡ groupAt (group .0) ⌝ }
+{
+    Gtsi(ssi_of(group.0), extension_of(group.0))
+}
+
+// A radio's number, both parts.
+pub fn radio_of(radio: RadioKey) -> Itsi
+    ensures { λ r. ⌜ r ≡ radioAt (radio .0) ⌝ }
+{
+    Itsi(ssi_of(radio.0), extension_of(radio.0))
+}
+
+// The group that a list or a show asks for: a plain SSI takes the asker's extension.
+pub fn asked_group(asker: Itsi, asked: GroupAsked) -> Gtsi
+    ensures { λ r. ⌜ r ≡ askedGroup asker asked ⌝ }
+{
+    match asked {
+        GroupAsked::Whole(group) => group,
+        GroupAsked::Plain(ssi) => Gtsi(ssi, asker.1),
+    }
+}
+
+// The key of the number that an identity of a list names; `home` is the asker's extension, which a plain SSI takes.
+fn identity_key(identity: Identity, home: u32) -> u64
+    ensures { λ r. ⌜ r ≡ key (identified home (identityOf identity)) ⌝ }
+{
+    if identity.form == 2 {
+        return key(identity.ssi, identity.extension);
+    }
+    key(identity.ssi, home)
+}
+
+// The keys of a list, each once, at its first place; `home` is the asker's extension.
+fn keys_of(home: u32, code: u32, identity: [Identity; MAX_LISTED]) -> KeyList
+    ensures { λ r. ⌜ r ≡ keysAs (numbers home (numbersAs code identity)) ⌝ }
 {
     let used = used_count(code);
     let mut keys = [0u64; MAX_LISTED];
     let mut count: usize = 0;
     let mut i: usize = 0;
     while i < used {
-        let one = identity[i];
-        let x = key(one.ssi);
+        let x = identity_key(identity[i], home);
         i += 1;
         if !member(&keys[..count], x) {
             keys[count] = x;
@@ -69,13 +121,13 @@ fn keys_of(code: u64, identity: [Identity; MAX_LISTED]) -> KeyList
 }
 
 // The keys of a list, none where it is not given.
-fn keys_in(list: Listed) -> KeyList
-    ensures { λ r. ⌜ r ≡ keysAs (numbersIn (listOf list)) ⌝ }
+fn keys_in(home: u32, list: Listed) -> KeyList
+    ensures { λ r. ⌜ r ≡ keysAs (numbersIn home (listOf list)) ⌝ }
 {
     if list.given {
         let numbers = list.numbers;
         let identity = numbers.identity;
-        return keys_of(numbers.code, identity);
+        return keys_of(home, numbers.code, identity);
     }
     KeyList {
         count: 0,
@@ -84,10 +136,10 @@ fn keys_in(list: Listed) -> KeyList
 }
 
 // The groups of a list, none where it is not given.
-pub fn groups_in(list: Listed) -> Groups
-    ensures { λ r. ⌜ r ≡ groupsAs (numbersIn (listOf list)) ⌝ }
+pub fn groups_in(asker: Itsi, list: Listed) -> Groups
+    ensures { λ r. ⌜ r ≡ groupsAs (numbersIn (asker .1) (listOf list)) ⌝ }
 {
-    let keys = keys_in(list);
+    let keys = keys_in(asker.1, list);
     let key = keys.key;
     Groups {
         count: keys.count,
@@ -96,10 +148,10 @@ pub fn groups_in(list: Listed) -> Groups
 }
 
 // The radios of a list, none where it is not given.
-pub fn radios_in(list: Listed) -> Radios
-    ensures { λ r. ⌜ r ≡ radiosAs (numbersIn (listOf list)) ⌝ }
+pub fn radios_in(asker: Itsi, list: Listed) -> Radios
+    ensures { λ r. ⌜ r ≡ radiosAs (numbersIn (asker .1) (listOf list)) ⌝ }
 {
-    let keys = keys_in(list);
+    let keys = keys_in(asker.1, list);
     let key = keys.key;
     Radios {
         count: keys.count,
@@ -198,9 +250,9 @@ fn owners_rising(owners: Owners) -> Owners
 
 // The owners that an order gives, rising: "asker plus those listed".
 pub fn owners_in(asker: Itsi, list: Listed) -> Owners
-    ensures { λ r. ⌜ r ≡ ownersAs (rising (key (asker .0) ∷ numbersIn (listOf list))) ⌝ }
+    ensures { λ r. ⌜ r ≡ ownersAs (rising (key (radioNumber asker) ∷ numbersIn (asker .1) (listOf list))) ⌝ }
 {
-    let keys = keys_in(list);
+    let keys = keys_in(asker.1, list);
     let count = keys.count;
     let key = keys.key;
     owners_rising(with_asker(radio_key(asker), &key[..count]))

@@ -9,11 +9,17 @@ mod values;
 use rows::MAX_LISTED;
 use rows::MAX_OWNERS;
 
-// A group's number, as it is handed over.
-pub struct Gtsi(pub u64);
+// A group's number, as it is handed over: SSI and extension. 24 bits of each are good; 32 are held, so that no key of theirs can wrap.
+pub struct Gtsi(pub u32, pub u32);
 
-// A radio's number, as it is handed over.
-pub struct Itsi(pub u64);
+// A radio's number, as it is handed over: SSI and extension, likewise.
+pub struct Itsi(pub u32, pub u32);
+
+// The group of a list or a show: with its extension, or a plain SSI, which takes the asker's.
+pub enum GroupAsked {
+    Whole(Gtsi),
+    Plain(u32),
+}
 
 // A group, as the ledger knows it.
 pub struct GroupKey(pub u64);
@@ -23,15 +29,15 @@ pub struct RadioKey(pub u64);
 
 // An identity: its form (0 SNA, 1 SSI, 2 SSI and extension), and its values.
 pub struct Identity {
-    pub form: u64,
-    pub sna: u64,
-    pub ssi: u64,
-    pub extension: u64,
+    pub form: u32,
+    pub sna: u32,
+    pub ssi: u32,
+    pub extension: u32,
 }
 
 // A list of numbers: its number type (0 one, 1 a range, 2 to 10 that many) and places for ten identities.
 pub struct Numbers {
-    pub code: u64,
+    pub code: u32,
     pub identity: [Identity; MAX_LISTED],
 }
 

@@ -1,23 +1,40 @@
 // Lists of numbers as an order lends them, and what they are refused for.
 use crate::Fault;
+use crate::Gtsi;
 use crate::Identity;
+use crate::Itsi;
 use crate::Listed;
 use rows::MAX_LISTED;
 ghost use Prim.Native.Nat.{min};
 ghost use mathlib.Core.Path.{_≡_};
 ghost use Rattle.rules.specs.Lists.{mem, any};
-ghost use Rattle.rules.specs.Number.{count, used, wide, badList, untaken};
+ghost use Rattle.rules.specs.Number.{count, used, wide, wideNumber, badList, untaken};
 ghost use Rattle.rows.specs.Layout.{maxListed};
+ghost use Rattle.order.specs.Numbers.{radioNumber, groupNumber};
 ghost use Rattle.order.specs.Lists.{identityOf, numbersAs, listOf, faulty};
 
 // The first number that does not fit 24 bits.
-const TOO_WIDE: u64 = 0x100_0000;
+const TOO_WIDE: u32 = 0x100_0000;
 
-// Whether a number that is handed over is above 24 bits.
-pub fn wide(number: u64) -> bool
-    ensures { λ r. ⌜ r ≡ wide number ⌝ }
+// Whether a part of a number is above 24 bits.
+fn wide(part: u32) -> bool
+    ensures { λ r. ⌜ r ≡ wide part ⌝ }
 {
-    TOO_WIDE <= number
+    TOO_WIDE <= part
+}
+
+// Whether a radio's number that is handed over has a part above 24 bits.
+pub fn wide_radio(radio: Itsi) -> bool
+    ensures { λ r. ⌜ r ≡ wideNumber (radioNumber radio) ⌝ }
+{
+    wide(radio.0) | wide(radio.1)
+}
+
+// Whether a group's number has.
+pub fn wide_group(group: Gtsi) -> bool
+    ensures { λ r. ⌜ r ≡ wideNumber (groupNumber group) ⌝ }
+{
+    wide(group.0) | wide(group.1)
 }
 
 // Whether a number is in a list.
@@ -35,7 +52,7 @@ pub fn member(list: &[u64], x: u64) -> bool
 }
 
 // How many identities a number type counts.
-pub fn used_count(code: u64) -> usize
+pub fn used_count(code: u32) -> usize
     ensures { λ r. ⌜ r ≡ min (count code) maxListed ⌝ }
 {
     if code == 0 {
@@ -44,7 +61,7 @@ pub fn used_count(code: u64) -> usize
     if code == 1 {
         return 2;
     }
-    if MAX_LISTED as u64 <= code {
+    if MAX_LISTED <= code as usize {
         return MAX_LISTED;
     }
     code as usize
@@ -55,13 +72,17 @@ fn is_faulty(identity: Identity, fault: Fault) -> bool
     ensures { λ r. ⌜ r ≡ faulty fault (identityOf identity) ⌝ }
 {
     match fault {
-        Fault::Bad => (2 < identity.form) | ((0 < identity.form) & wide(identity.ssi)),
+        Fault::Bad => {
+            (2 < identity.form)
+                | (((0 < identity.form) & wide(identity.ssi))
+                    | ((identity.form == 2) & wide(identity.extension)))
+        }
         Fault::Short => identity.form == 0,
     }
 }
 
 // Whether an identity in use has this fault.
-fn any_faulty(code: u64, identity: [Identity; MAX_LISTED], fault: Fault) -> bool
+fn any_faulty(code: u32, identity: [Identity; MAX_LISTED], fault: Fault) -> bool
     ensures { λ r. ⌜ r ≡ any (faulty fault) (used (numbersAs code identity)) ⌝ }
 {
     let count = used_count(code);

@@ -5,7 +5,6 @@ use crate::Listed;
 use crate::Numbers;
 use crate::values::one_down;
 use crate::values::optional;
-use crate::values::widened;
 use layout::PLACES;
 use table::place::define::*;
 use table::place::*;
@@ -31,9 +30,9 @@ fn identity_at(place: [u32; PLACES], k: usize) -> Identity
 {
     Identity {
         form: one_down(place[k]),
-        sna: widened(place[k + 1]),
-        ssi: widened(place[k + 2]),
-        extension: widened(place[k + 3]),
+        sna: place[k + 1],
+        ssi: place[k + 2],
+        extension: place[k + 3],
     }
 }
 

@@ -46,7 +46,7 @@ fn choice_at(place: [u32; PLACES], k: usize) -> u64
     ensures { λ r. ⌜ r ≡ heldOf (optionalChoice place k) ⌝ }
 {
     if optional(place, k) {
-        return one_down(place[k + 1]) + 1;
+        return widened(one_down(place[k + 1])) + 1;
     }
     0
 }

@@ -14,13 +14,13 @@ pub fn widened(value: u32) -> u64
 }
 
 // A choice's code: its place holds it one up.
-pub fn one_down(value: u32) -> u64
-    ensures { λ r. ⌜ (r ≡ value - 1) × (r < 4294967296) ⌝ }
+pub fn one_down(value: u32) -> u32
+    ensures { λ r. ⌜ r ≡ value - 1 ⌝ }
 {
     if value == 0 {
         return 0;
     }
-    (value - 1) as u64
+    value - 1
 }
 
 // Whether an optional element of a DEFINE record is there; its P-bit is at `k`.

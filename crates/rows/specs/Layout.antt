@@ -3,7 +3,7 @@
 --     a group   36 words: its key; set reference, acknowledged call, broadcast, class, lifetime, temporary, each one up, 0 where
 --               absent; the name's length, 0 where absent, and 16 letters; the owners' count and 11 owners
 --     a pair    4 words: group, radio, state, ticks
---     an outgoing order 3 words: kind, radio, group; a listed radio 2: radio, state
+--     an outgoing order 5 words: kind; radio, group, each SSI and extension; a listed radio 3: SSI, extension, state
 use Prim.Native.Nat.{ℕ}
 
 abbrev pub headWords : ℕ
@@ -22,7 +22,7 @@ abbrev pub pairWords : ℕ
 pairWords = 4
 
 abbrev pub orderWords : ℕ
-orderWords = 3
+orderWords = 5
 
 abbrev pub maxLetters : ℕ
 maxLetters = 16
@@ -74,3 +74,18 @@ pairState = 2
 
 abbrev pub pairTicks : ℕ
 pairTicks = 3
+
+abbrev pub orderKind : ℕ
+orderKind = 0
+
+abbrev pub orderRadio : ℕ
+orderRadio = 1
+
+abbrev pub orderGroup : ℕ
+orderGroup = 3
+
+abbrev pub entryRadio : ℕ
+entryRadio = 0
+
+abbrev pub entryState : ℕ
+entryState = 2

@@ -22,9 +22,9 @@ pub const GROUP_WORDS: usize = 36;
 
 pub const PAIR_WORDS: usize = 4;
 
-pub const ORDER_WORDS: usize = 3;
+pub const ORDER_WORDS: usize = 5;
 
-pub const ENTRY_WORDS: usize = 2;
+pub const ENTRY_WORDS: usize = 3;
 
 // The head: how many groups, how many pairs.
 pub const GROUP_COUNT: usize = 0;
@@ -62,6 +62,18 @@ pub const PAIR_RADIO: usize = 1;
 pub const PAIR_STATE: usize = 2;
 
 pub const PAIR_TICKS: usize = 3;
+
+// An outgoing order: its kind; its radio and its group, each an SSI and behind it the extension.
+pub const ORDER_KIND: usize = 0;
+
+pub const ORDER_RADIO: usize = 1;
+
+pub const ORDER_GROUP: usize = 3;
+
+// A listed radio: an SSI and behind it the extension; its state.
+pub const ENTRY_RADIO: usize = 0;
+
+pub const ENTRY_STATE: usize = 2;
 
 // The states of a pair that code looks at: waiting, confirmed, unheard; and T1, the ticks after which a waiting pair is unheard.
 pub const WAITING: u64 = 1;
