@@ -11,7 +11,7 @@ use borrow.Author.Tests.{eqb-true, eq-eqb, ne-eqb, ltb-true, lt-ltb, le-ltb}
 use Rattle.rules.specs.Lists.{all, mem, ahead, rises, Above, Rising}
 use Rattle.rules.specs.Mark.{Mark}
 use Rattle.rules.specs.Ledger.{Pair}
-use Rattle.rules.specs.Number.{wideKey}
+use Rattle.rules.specs.Number.{keyLimit, wideKey}
 use Rattle.rules.specs.Written.{goodMark}
 use Rattle.rules.specs.ByNumber.{lower, belowPair}
 use Rattle.rules.proofs.Tests.{split, clash, and-in, and-l, and-r, and-false}
@@ -43,7 +43,7 @@ module _ (g : ℕ) (gs : List ℕ) (least : ℕ) (e : Pair × Mark) (l : List (P
   unfolding goodPairs
   pairs-next h = rw h
 
-pub radio-narrow : (least : ℕ) (e : Pair × Mark) → goodNext least e ≡ true → e .0 .1 < 16777216
+pub radio-narrow : (least : ℕ) (e : Pair × Mark) → goodNext least e ≡ true → e .0 .1 < keyLimit
 radio-narrow least e h = narrow (e .0 .1) (and-l (not (wideKey (e .0 .1))) (goodMark (e .1))
     (and-r (leb least (e .0 .1)) (not (wideKey (e .0 .1)) && goodMark (e .1)) h))
 

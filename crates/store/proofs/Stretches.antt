@@ -9,7 +9,7 @@ use lib.ListN.{length, getD}
 use borrow.Author.Tests.{not-true, leb-false, ltb-true, lt-ltb, le-ltb, eqb-true, eqb-false, eq-eqb, ne-eqb}
 use Rattle.rules.specs.Lists.{keep, all, rises}
 use Rattle.rules.specs.Mark.{Mark}
-use Rattle.rules.specs.Number.{wideKey}
+use Rattle.rules.specs.Number.{keyLimit, wideKey}
 use Rattle.rules.specs.Ledger.{Pair, radiosOf}
 use Rattle.rules.specs.Listing.{gathered}
 use Rattle.rules.specs.ByNumber.{lower, belowPair}
@@ -65,7 +65,7 @@ module _ (g : ℕ) where
   -- a pair is the group's where it stands between them
   in-group : (e : Pair × Mark) → narrow e ≡ true → eqb g (e .0 .0) ≡ between belowPair (g, 0) (g, pastRadios) e
   in-group e w =
-      let n = leb-false (2 ^ 24) (e .0 .1) (not-true (wideKey (e .0 .1)) w) in
+      let n = leb-false keyLimit (e .0 .1) (not-true (wideKey (e .0 .1)) w) in
       let a = le-ltb (e .0 .1) 0 (omega arith) in
       let b = lt-ltb (e .0 .1) pastRadios (omega arith) in
       split (ltb (e .0 .0) g)

@@ -39,8 +39,8 @@ ghost use Rattle.store.specs.Form.{tidy, roomy, risingKeys, goodRow, goo
 ghost use Rattle.store.specs.Lists.{Plain};
 ghost use Rattle.store.specs.Storage.{placing, contents, pairOf, pairRow, pairsOf, groupOf, groupRow};
 
-// The first key that does not fit 24 bits.
-const KEY_LIMIT: u64 = 0x100_0000;
+// The first key that is above two parts of 24 bits.
+const KEY_LIMIT: u64 = 0x1_0000_0000_0000;
 
 // Whether a word of a list is at least `bound`.
 fn large(list: &[u64], bound: u64) -> bool
@@ -56,7 +56,7 @@ fn large(list: &[u64], bound: u64) -> bool
     false
 }
 
-// Whether the keys of a list rise, and fit 24 bits.
+// Whether the keys of a list rise, and are in range.
 fn rising_keys(list: &[u64]) -> bool
     ensures { λ r. ⌜ r ≡ risingKeys 0 (now (list .entry)) ⌝ }
 {

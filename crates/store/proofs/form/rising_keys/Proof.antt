@@ -7,6 +7,7 @@ use lib.Dec.{leb}
 use lib.ListN.{getD, length, drop, drop-of-length-le}
 use borrow.Author.Tests.{not-false}
 use Rattle.order.proofs.Walks.{rest-cons}
+use Rattle.rules.specs.Number.{wideKey}
 use Rattle.store.specs.Form.{risingKeys}
 use Rattle.store.proofs.Tests.{and-both, and-turn, narrow}
 use borrow.Author.Needs.{needs}
@@ -23,13 +24,13 @@ abbrev μ-loop : tie.MeasureT-loop
 turn : (c : tie.After-shared-slice-known Inv-loop μ-loop) → let list = c .before .before .before .args .list .now in
     let l = c .before .before .loop in
     let key = getD list (l .i) 0 in
-    let fine = leb (l .least) key && not (leb 16777216 key) in
+    let fine = leb (l .least) key && not (wideKey key) in
     (not fine ≡ false → risingKeys (key + 1) (drop (l .i + 1) list) ≡ risingKeys 0 list) × (not fine ≡ true → false ≡ risingKeys 0 list)
 turn c =
     let list = c .before .before .before .args .list .now in
     let l = c .before .before .loop in
     let key = getD list (l .i) 0 in
-    and-turn (leb (l .least) key && not (leb 16777216 key)) (risingKeys (key + 1) (drop (l .i + 1) list)) (risingKeys 0 list)
+    and-turn (leb (l .least) key && not (wideKey key)) (risingKeys (key + 1) (drop (l .i + 1) list)) (risingKeys 0 list)
     (rw (rest-cons list (l .i) 0 (search needs)) at (l .inv .1))
 
 loop-holds : tie.Need-loop-holds Inv-loop μ-loop
@@ -51,8 +52,8 @@ add-least : tie.Need-add-least Inv-loop μ-loop
 add-least c =
     let l = c .before .before .before .loop in
     let key = getD (c .before .before .before .before .args .list .now) (l .i) 0 in
-    let fine = not-false (leb (l .least) key && not (leb 16777216 key)) (c .if1 .left) in
-    let small = narrow key (and-both (leb (l .least) key) (not (leb 16777216 key)) fine .1) in
+    let fine = not-false (leb (l .least) key && not (wideKey key)) (c .if1 .left) in
+    let small = narrow key (and-both (leb (l .least) key) (not (wideKey key)) fine .1) in
     omega arith
 
 loop-less : tie.Need-loop-less Inv-loop μ-loop
