@@ -1,4 +1,4 @@
--- A group's list in lent room: a row an entry, radio and state.
+-- A group's list in lent room: a row an entry, the radio's SSI and extension, and its state.
 use Prim.Native.Nat.{ℕ}
 use mathlib.Core.Path.{_≡_}
 use mathlib.Core.Bool.{cond}
@@ -7,10 +7,12 @@ use mathlib.Core.Option.{Option, none, some}
 use lib.ListN.{length}
 use Rattle.refusal.specs.declared.Refusal.{Refusal}
 use Rattle.refusal.specs.declared.Refusal.the-variants.{NotWritten}
+use Rattle.rules.specs.Number.{ssiOf, extensionOf}
 use Rattle.rules.specs.Replies.{Entry, Listing}
 use Rattle.rules.specs.Ledger.{list}
 use Rattle.order.specs.declared.Gtsi.{Gtsi}
 use Rattle.order.specs.declared.Itsi.{Itsi}
+use Rattle.order.specs.Numbers.{radioNumber, groupNumber}
 use Rattle.order.specs.Walks.{onto}
 use Rattle.store.specs.Storage.{Rows, Contents, ledgerOf}
 use Rattle.store.specs.Form.{isWritten}
@@ -18,11 +20,11 @@ use Rattle.replies.specs.declared.Members.{Members}
 use Rattle.replies.specs.declared.Members.the-variants as members
 
 abbrev pub entryRow : Entry → List ℕ
-entryRow e = e .0 ∷ e .1 ∷ []
+entryRow e = ssiOf (e .0) ∷ extensionOf (e .0) ∷ e .1 ∷ []
 
 -- the list on lent contents
 abbrev pub listOn : Contents → Itsi → Gtsi → ℕ → Listing
-listOn c asker group room = cond (isWritten c) (list (ledgerOf c) (asker .0) (group .0) room) (record { refused = some NotWritten; entries = [] })
+listOn c asker group room = cond (isWritten c) (list (ledgerOf c) (radioNumber asker) (groupNumber group) room) (record { refused = some NotWritten; entries = [] })
 
 -- the reply: how many radios, or the refusal
 abbrev pub membersReply : Option Refusal → ℕ → Members

@@ -9,6 +9,7 @@ use Rattle.rules.specs.Order.{Step}
 use Rattle.rules.specs.Refusals.{accepted, showRefusal}
 use Rattle.rules.specs.Ledger.{empty, view}
 use Rattle.rules.specs.Steps.{refused, step}
+use Rattle.order.specs.Numbers.{radioNumber, groupNumber}
 use Rattle.order.specs.declared.Gtsi.{Gtsi}
 use Rattle.order.specs.declared.Itsi.{Itsi}
 use Rattle.store.specs.Storage.{Contents, placing, ledgerOf, laid}
@@ -56,5 +57,5 @@ pub record Judges (on : Contents) (s : Step) (reply : Reply) : Type 0 where
 
 -- the judgement of a list or a show, room apart
 pub record JudgesAsker (on : Contents) (asker : Itsi) (group : Gtsi) (reply : Reply) : Type 0 where
-  pub judges : reply ≡ replyOf (judged on (showRefusal (view (ledgerOf on)) (asker .0) (group .0)))
+  pub judges : reply ≡ replyOf (judged on (showRefusal (view (ledgerOf on)) (radioNumber asker) (groupNumber group)))
   pub sound : reply ≡ Done → Sound on

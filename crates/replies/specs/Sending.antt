@@ -1,4 +1,4 @@
--- The orders that go out, in lent room: a row an order, kind, radio and group.
+-- The orders that go out, in lent room: a row an order, its kind, then radio and group, each SSI and extension.
 use Prim.Native.Nat.{ℕ}
 use mathlib.Core.Path.{_≡_}
 use mathlib.Core.Bool.{cond}
@@ -6,6 +6,7 @@ use mathlib.Core.List.{List, [], _∷_, map}
 use mathlib.Core.Option.{Option, none, some}
 use lib.ListN.{length}
 use Rattle.refusal.specs.declared.Refusal.{Refusal}
+use Rattle.rules.specs.Number.{ssiOf, extensionOf}
 use Rattle.rules.specs.Order.{Step}
 use Rattle.rules.specs.Outgoing.{Outgoing}
 use Rattle.rules.specs.Refusals.{accepted}
@@ -17,7 +18,7 @@ use Rattle.replies.specs.declared.Sent.{Sent}
 use Rattle.replies.specs.declared.Sent.the-variants as reply
 
 abbrev pub orderRow : Outgoing → List ℕ
-orderRow o = o .kind ∷ o .radio ∷ o .group ∷ []
+orderRow o = o .kind ∷ ssiOf (o .radio) ∷ extensionOf (o .radio) ∷ ssiOf (o .group) ∷ extensionOf (o .group) ∷ []
 
 -- what goes out: nothing where the order is refused
 abbrev pub sentOn : Contents → Step → List Outgoing

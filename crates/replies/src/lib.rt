@@ -1,5 +1,6 @@
 // What the ledger's orders and questions are answered with.
 
+use order::Itsi;
 use refusal::Refusal;
 use rows::MAX_LETTERS;
 use rows::MAX_OWNERS;
@@ -26,7 +27,7 @@ pub enum Members {
 pub struct Shown {
     pub reply: Reply,
     pub count: usize,
-    pub owners: [u64; MAX_OWNERS],
+    pub owners: [Itsi; MAX_OWNERS],
     pub reference: u64,
     pub acknowledged: u64,
     pub broadcast: u64,

@@ -1,11 +1,10 @@
 -- Laws of orders laid one behind the other in lent room.
-use mathlib.Core.Path.{_≡_, refl, sym, ap, _∙_}
+use mathlib.Core.Path.{_≡_, sym, ap, _∙_}
 use mathlib.Core.List.{List, [], _∷_, _++_, map, append-nil, map-append}
 use Prim.Native.Nat.{ℕ, _+_, _≤_, _<_}
 use native.Mathlib.Numerals.{add-one}
 use native.Mathlib.Omega.{arith}
 use borrow.Author.Tests.{le-leb, lt-leb}
-use lib.Dec.{leb}
 use lib.ListN.{length, getD, set, take, drop, length-append, length-map, take-append-drop, List·getD-map}
 use lib.Seq.{take-suc, paste, paste-suc, take-length, take-append-seam, drop-append-add, drop-drop}
 use Rattle.rules.specs.Lists.{join}
@@ -41,15 +40,16 @@ paste-onto k s o at n e m =
 
 -- one more order stands in the room
 pub push-turn : (radios : List ℕ) (out out₀ : List (List ℕ)) (at kind g i : ℕ) → i < length radios → at + length radios ≤ length out₀
-    → out ≡ paste out₀ at (map orderRow (orders kind g radios)) i → set out (at + i) (kind ∷ getD radios i 0 ∷ g ∷ []) ≡ paste out₀ at
-    (map orderRow (orders kind g radios)) (i + 1)
-push-turn radios out out₀ at kind g i h r e =
+    → out ≡ paste out₀ at (map orderRow (orders kind g radios)) i
+    → (row : List ℕ) → row ≡ orderRow (record { kind = kind; radio = getD radios i 0; group = g })
+    → set out (at + i) row ≡ paste out₀ at (map orderRow (orders kind g radios)) (i + 1)
+push-turn radios out out₀ at kind g i h r e row q =
     let rows = map orderRow (orders kind g radios) in
     let one : ℕ → Outgoing = λ r. record { kind = kind; radio = r; group = g } in
     let n : length rows ≡ length radios = length-map (orders kind g radios) orderRow ∙ length-map radios one in
-    let x : getD rows i (orderRow (one 0)) ≡ kind ∷ getD radios i 0 ∷ g ∷ [] = List·getD-map orderRow (orders kind g radios) i (one 0)
-    ∙ ap orderRow (List·getD-map one radios i 0) in
-    rw add-one (ap (λ (z : List (List ℕ)). set z (at + i) (kind ∷ getD radios i 0 ∷ g ∷ [])) e
+    let x : getD rows i (orderRow (one 0)) ≡ row = List·getD-map orderRow (orders kind g radios) i (one 0)
+    ∙ ap orderRow (List·getD-map one radios i 0) ∙ sym q in
+    rw add-one (ap (λ (z : List (List ℕ)). set z (at + i) row) e
     ∙ ap (set (paste out₀ at rows i) (at + i)) (sym x)
     ∙ paste-suc out₀ at rows i (orderRow (one 0)) (omega arith) (omega arith))
 

@@ -1,5 +1,8 @@
 // The orders that go out to the radios of a group, in lent room.
 use order::GroupKey;
+use order::RadioKey;
+use order::keys::group_of;
+use order::keys::radio_of;
 use rows::ORDER_WORDS;
 ghost use Prim.Native.Nat.{_≤_, _+_};
 ghost use lib.ListN.{length};
@@ -15,6 +18,15 @@ pub const ASSIGN: u64 = 0;
 
 pub const DEASSIGN: u64 = 1;
 
+// An outgoing order as a row of the room.
+pub fn order_row(kind: u64, radio: RadioKey, group: GroupKey) -> [u64; ORDER_WORDS]
+    ensures { λ r. ⌜ r ≡ orderRow (record { kind = kind; radio = radio .0; group = group .0 }) ⌝ }
+{
+    let to = radio_of(radio);
+    let of = group_of(group);
+    [kind, to.0 as u64, to.1 as u64, of.0 as u64, of.1 as u64]
+}
+
 // An order of this kind to each radio, from place `at` on.
 fn push_rows(out: &mut [[u64; ORDER_WORDS]], at: usize, kind: u64, group: GroupKey, radios: &[u64])
     requires { ⌜ at + length (now radios) ≤ length (now out) ⌝ }
@@ -23,7 +35,7 @@ fn push_rows(out: &mut [[u64; ORDER_WORDS]], at: usize, kind: u64, group: GroupK
 {
     let mut i: usize = 0;
     while i < radios.len() {
-        out[at + i] = [kind, radios[i], group.0];
+        out[at + i] = order_row(kind, RadioKey(radios[i]), group);
         i += 1;
     }
 }

@@ -1,7 +1,6 @@
 -- `sending::push_orders` meets its contract: the orders are laid where they fit.
 use mathlib.Core.Path.{sym, ap, _∙_}
 use native.Mathlib.Omega.{arith}
-use Prim.Native.Nat.{ℕ}
 use mathlib.Core.List.{map}
 use lib.Seq.{paste}
 use Rattle.rules.specs.Outgoing.{orders}
