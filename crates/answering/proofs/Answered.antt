@@ -10,6 +10,7 @@ use lib.ListN.{length, getD, set}
 use lib.Seq.{set-getD}
 use Rattle.rules.specs.Entries.{alter}
 use Rattle.rules.specs.Mark.{Mark, ticked, answered, open?}
+use Rattle.rules.specs.Number.{key}
 use Rattle.rules.specs.Order.{tick}
 use Rattle.rules.specs.Effect.{effect, only}
 use Rattle.rules.specs.Ledger.{Pair, samePair, empty, view}
@@ -20,6 +21,7 @@ use Rattle.rules.proofs.Tests.{clash}
 use Rattle.rules.proofs.ByKey.{apart, apart-back}
 use Rattle.rules.proofs.ByNumber.{pairs-linear}
 use Rattle.rules.proofs.Walks.{alter-all}
+use Rattle.order.specs.Numbers.{radioNumber, groupNumber}
 use Rattle.order.specs.Steps.{answerStep}
 use Rattle.order.specs.declared.Gtsi.{Gtsi}
 use Rattle.order.specs.declared.Itsi.{Itsi}
@@ -90,21 +92,21 @@ module _ (c : Contents) (w : Sound c) where
       ∙ rw (x i (s .inside), add-one)
 
   pub answered-laid : (radio : Itsi) (group : Gtsi) (result i n : ℕ) (rows : List (List ℕ))
-      → At i ≡ placeOf belowPair samePair (pairsOf (pairCount c) (c .pairs)) (group .0, radio .0)
+      → At i ≡ placeOf belowPair samePair (pairsOf (pairCount c) (c .pairs)) (key (groupNumber group), key (radioNumber radio))
       → Fills pairRow (settled (pairOf (getD (c .pairs) i []) .0) result i (pairsOf (pairCount c) (c .pairs))) (c .pairs) rows n
       → contents (set (c .head) 1 n) (c .groups) rows ≡ laid (apply placing (ledgerOf c) (effect (view (ledgerOf c)) (answerStep radio group result))) c
   answered-laid radio group result i n rows e f =
-      let q = sym (answered-one (group .0, radio .0) result i e) in
-      turned-laid c w (λ g r m. cond (samePair (g, r) (group .0, radio .0)) (answered result) (some m)) n rows (f .counts ∙ ap length q)
+      let q = sym (answered-one (key (groupNumber group), key (radioNumber radio)) result i e) in
+      turned-laid c w (λ g r m. cond (samePair (g, r) (key (groupNumber group), key (radioNumber radio))) (answered result) (some m)) n rows (f .counts ∙ ap length q)
       (f .rows ∙ ap (λ (z : List (Pair × Mark)). onto (map pairRow z) (c .pairs)) q)
 
   -- an answer of a pair that is not there is refused
   pub no-pair-refused : {P : Type 0} (radio : Itsi) (group : Gtsi) (result i : ℕ)
-      → Free i ≡ placeOf belowPair samePair (pairsOf (pairCount c) (c .pairs)) (group .0, radio .0)
+      → Free i ≡ placeOf belowPair samePair (pairsOf (pairCount c) (c .pairs)) (key (groupNumber group), key (radioNumber radio))
       → refused placing (ledgerOf c) (answerStep radio group result) ≡ none → P
   no-pair-refused radio group result i e t =
       let s = answerStep radio group result in
       let v = view (ledgerOf c) in
       let q = tests-pass (tests v (tally placing (ledgerOf c) (effect v s)) s) t 2 in
-      let f = pair-in-rows (Free i) (group .0, radio .0) e .found in
+      let f = pair-in-rows (Free i) (key (groupNumber group), key (radioNumber radio)) e .found in
       clash (rw f at q)

@@ -5,7 +5,8 @@ use order::Itsi;
 use order::Radios;
 use order::keys::group_key;
 use order::keys::radio_key;
-use order::lists::wide;
+use order::lists::wide_group;
+use order::lists::wide_radio;
 use refusal::Refusal;
 use replies::Reply;
 use rows::CONFIRMED;
@@ -103,7 +104,7 @@ fn answer_fault(
     if !written(head, groups, pairs) {
         return Reply::Refused(Refusal::NotWritten);
     }
-    let bad = wide(radio.0) | (wide(group.0) | ((result == 0) | (LAST_RESULT < result)));
+    let bad = wide_radio(radio) | (wide_group(group) | ((result == 0) | (LAST_RESULT < result)));
     if bad {
         return Reply::Refused(Refusal::BadOrder);
     }

@@ -7,10 +7,11 @@ use lib.Dec.{eqb, ltb}
 use Rattle.refusal.specs.declared.Refusal.the-variants.{NoSuchGroup, NotOwner}
 use Rattle.rules.specs.Lists.{mem, present}
 use Rattle.rules.specs.Entries.{find}
-use Rattle.rules.specs.Number.{wide}
+use Rattle.rules.specs.Number.{key, wideNumber}
 use Rattle.rules.specs.Refusals.{showRefusal}
 use Rattle.rules.specs.Ledger.{Group, ownersOf, view}
 use Rattle.rules.proofs.ByNumber.{numbers-linear}
+use Rattle.order.specs.Numbers.{radioNumber, groupNumber}
 use Rattle.order.specs.declared.Gtsi.{Gtsi}
 use Rattle.order.specs.declared.Itsi.{Itsi}
 use Rattle.store.specs.Storage.{Contents, ledgerOf}
@@ -32,24 +33,24 @@ ownedReply Absent = Refused NoSuchGroup
 ownedReply Own = Done
 ownedReply Other = Refused NotOwner
 
-module _ (c : Contents) (asker : Itsi) (group : Gtsi) (w : Sound c) (n : (wide (asker .0) || wide (group .0)) ≡ false) where
-  pub asked-owned : (g a : ℕ) → g ≡ group .0 → a ≡ asker .0 → (o x : Owned) → x ≡ o → x ≡ ownedAs (lookedUp ltb eqb (ledgerOf c .groups) g) a
-      → ownedReply o ≡ replyOf (judged c (showRefusal (view (ledgerOf c)) (asker .0) (group .0)))
+module _ (c : Contents) (asker : Itsi) (group : Gtsi) (w : Sound c) (n : (wideNumber (radioNumber asker) || wideNumber (groupNumber group)) ≡ false) where
+  pub asked-owned : (g a : ℕ) → g ≡ key (groupNumber group) → a ≡ key (radioNumber asker) → (o x : Owned) → x ≡ o → x ≡ ownedAs (lookedUp ltb eqb (ledgerOf c .groups) g) a
+      → ownedReply o ≡ replyOf (judged c (showRefusal (view (ledgerOf c)) (radioNumber asker) (groupNumber group)))
   asked-owned g a p q o x d e =
       let f = ap (λ (z : Option Group). ownedAs z a) (looked-found numbers-linear (ledgerOf c .groups) g (groups-rise c w)) in
-      rw (sym d ∙ e ∙ f, p, q, w .form, n) (go (find eqb (ledgerOf c .groups) (group .0)))
+      rw (sym d ∙ e ∙ f, p, q, w .form, n) (go (find eqb (ledgerOf c .groups) (key (groupNumber group))))
     where
       owns : (b : Bool) → ownedReply (cond b Own Other) ≡ replyOf (cond (not b) (some NotOwner) none)
       owns true = refl
       owns false = refl
 
-      go : (x : Option Group) → ownedReply (ownedAs x (asker .0))
-          ≡ replyOf (cond (not (present x)) (some NoSuchGroup) (cond (not (mem (asker .0) (ownersOf x))) (some NotOwner) none))
+      go : (x : Option Group) → ownedReply (ownedAs x (key (radioNumber asker)))
+          ≡ replyOf (cond (not (present x)) (some NoSuchGroup) (cond (not (mem (key (radioNumber asker)) (ownersOf x))) (some NotOwner) none))
       go none = refl
-      go (some x) = owns (mem (asker .0) (x .owners))
+      go (some x) = owns (mem (key (radioNumber asker)) (x .owners))
 
 -- a question that is not refused passes its tests
 pub asked-none : (c : Contents) (asker : Itsi) (group : Gtsi) {reply : Reply} → JudgesAsker c asker group reply → reply ≡ Done
-    → showRefusal (view (ledgerOf c)) (asker .0) (group .0) ≡ none
+    → showRefusal (view (ledgerOf c)) (radioNumber asker) (groupNumber group) ≡ none
 asked-none c asker group j done =
-    reply-none (showRefusal (view (ledgerOf c)) (asker .0) (group .0)) (rw (j .sound done .form) at (sym done ∙ j .judges))
+    reply-none (showRefusal (view (ledgerOf c)) (radioNumber asker) (groupNumber group)) (rw (j .sound done .form) at (sym done ∙ j .judges))

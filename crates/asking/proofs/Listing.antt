@@ -11,12 +11,14 @@ use lib.Seq.{take-take}
 use borrow.Author.Tests.{lt-ltb, le-ltb}
 use Rattle.refusal.specs.declared.Refusal.{Refusal}
 use Rattle.refusal.specs.declared.Refusal.the-variants.{NotWritten, NoRoom}
+use Rattle.rules.specs.Number.{key}
 use Rattle.rules.specs.Refusals.{askTests, showRefusal, listRefusal}
 use Rattle.rules.specs.Replies.{Entry, entries}
 use Rattle.rules.specs.Mark.{Mark}
 use Rattle.rules.specs.Ledger.{Pair, view, members, list}
 use Rattle.rules.specs.Listing.{gathered}
 use Rattle.rules.proofs.Listing.{listed-members}
+use Rattle.order.specs.Numbers.{radioNumber, groupNumber}
 use Rattle.order.specs.declared.Gtsi.{Gtsi}
 use Rattle.order.specs.declared.Itsi.{Itsi}
 use Rattle.order.specs.Walks.{left, onto}
@@ -40,16 +42,16 @@ use Rattle.asking.proofs.Copying.{copied-length}
 
 module _ (c : Contents) (asker : Itsi) (group : Gtsi) (room : Rows) where
   abbrev last : List (Refusal × Bool)
-  last = (NoRoom, ltb (length room) (length (members (ledgerOf c) (group .0)))) ∷ []
+  last = (NoRoom, ltb (length room) (length (members (ledgerOf c) (key (groupNumber group))))) ∷ []
 
   pub list-refused : {reply : Reply} → JudgesAsker c asker group reply → (r : Refusal) → reply ≡ Refused r
       → Enumerates c asker group room room (members.Refused r)
   list-refused j r d = let t = go (isWritten c) (reply-some _ r (sym d ∙ j .judges)) in record { replies = t .0; lists = rw (t .1) }
     where
-      go : (b : Bool) → cond b (showRefusal (view (ledgerOf c)) (asker .0) (group .0)) (some NotWritten) ≡ some r
-          → let l = cond b (list (ledgerOf c) (asker .0) (group .0) (length room)) (record { refused = some NotWritten; entries = [] }) in
+      go : (b : Bool) → cond b (showRefusal (view (ledgerOf c)) (radioNumber asker) (groupNumber group)) (some NotWritten) ≡ some r
+          → let l = cond b (list (ledgerOf c) (radioNumber asker) (groupNumber group) (length room)) (record { refused = some NotWritten; entries = [] }) in
           (members.Refused r ≡ membersOf l) × (l .entries ≡ [])
-      go true q = rw (first-some (askTests (view (ledgerOf c)) (asker .0) (group .0)) last r q) (refl, refl)
+      go true q = rw (first-some (askTests (view (ledgerOf c)) (radioNumber asker) (groupNumber group)) last r q) (refl, refl)
       go false q = let z : NotWritten ≡ r = cc in (ap members.Refused (sym z), refl)
 
   -- a stretch holds the list: what the room then holds where it fits, and where not
@@ -61,7 +63,7 @@ module _ (c : Contents) (asker : Itsi) (group : Gtsi) (room : Rows) where
         → Enumerates c asker group room room′ (members.Radios (s .to - s .from))
 
   -- the asker may see the list, and the stretch is the group's
-  module _ {reply : Reply} (j : JudgesAsker c asker group reply) (done : reply ≡ Done) (g : ℕ) (d : g ≡ group .0) (s : Stretch)
+  module _ {reply : Reply} (j : JudgesAsker c asker group reply) (done : reply ≡ Done) (g : ℕ) (d : g ≡ key (groupNumber group)) (s : Stretch)
       (e : s ≡ stretchOf (ledgerOf c .pairs) g) where
     abbrev w : Sound c
     w = j .sound done
@@ -81,7 +83,7 @@ module _ (c : Contents) (asker : Itsi) (group : Gtsi) (room : Rows) where
         }
 
     abbrev listing : List Entry
-    listing = entries (view (ledgerOf c)) (members (ledgerOf c) (group .0)) (group .0)
+    listing = entries (view (ledgerOf c)) (members (ledgerOf c) (key (groupNumber group))) (key (groupNumber group))
 
     -- the stretch among the rows is that among the pairs
     pairs-there : map pairOf (left (s .from) (s .from + (s .to - s .from)) (c .pairs)) ≡ left (s .from) (s .to) (ledgerOf c .pairs)
@@ -95,18 +97,18 @@ module _ (c : Contents) (asker : Itsi) (group : Gtsi) (room : Rows) where
     rows : copied (s .from) (s .to - s .from) (c .pairs) ≡ map entryRow listing
     rows =
         let k = left (s .from) (s .from + (s .to - s .from)) (c .pairs) in
-        let law : gathered g (ledgerOf c .pairs) ≡ listing = rw d (listed-members (ledgerOf c) (group .0) (pairs-rise c w)) in
+        let law : gathered g (ledgerOf c .pairs) ≡ listing = rw d (listed-members (ledgerOf c) (key (groupNumber group)) (pairs-rise c w)) in
         sym (map-map _ pairOf k) ∙ sym (map-map entryRow listed (map pairOf k))
         ∙ ap (λ (z : List (Pair × Mark)). map entryRow (map listed z)) pairs-there ∙ ap (map entryRow) (sym (stretch .listed) ∙ law)
 
     counted : s .to - s .from ≡ length listing
     counted = sym (copied-length (s .from) (s .to - s .from) (c .pairs) (in-stretch .inside)) ∙ ap length rows ∙ length-map listing entryRow
 
-    refusal : listRefusal (view (ledgerOf c)) (asker .0) (group .0) (members (ledgerOf c) (group .0)) (length room)
+    refusal : listRefusal (view (ledgerOf c)) (radioNumber asker) (groupNumber group) (members (ledgerOf c) (key (groupNumber group))) (length room)
         ≡ cond (ltb (length room) (s .to - s .from)) (some NoRoom) none
     refusal =
-        first-none (askTests (view (ledgerOf c)) (asker .0) (group .0)) last (asked-none c asker group j done)
-        ∙ ap (λ (z : ℕ). cond (ltb (length room) z) (some NoRoom) none) (sym (counted ∙ length-map (members (ledgerOf c) (group .0)) _))
+        first-none (askTests (view (ledgerOf c)) (radioNumber asker) (groupNumber group)) last (asked-none c asker group j done)
+        ∙ ap (λ (z : ℕ). cond (ltb (length room) z) (some NoRoom) none) (sym (counted ∙ length-map (members (ledgerOf c) (key (groupNumber group))) _))
 
     pub holds : Holds g s
     holds = record {

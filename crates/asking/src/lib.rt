@@ -3,13 +3,17 @@ mod telling;
 
 use crate::telling::shown_none;
 use crate::telling::shown_row;
+use order::GroupAsked;
 use order::GroupKey;
 use order::Gtsi;
 use order::Itsi;
 use order::RadioKey;
+use order::keys::asked_group;
 use order::keys::group_key;
 use order::keys::radio_key;
-use order::lists::wide;
+use order::keys::radio_of;
+use order::lists::wide_group;
+use order::lists::wide_radio;
 use refusal::Refusal;
 use replies::Members;
 use replies::Reply;
@@ -31,9 +35,10 @@ use store::places::stretch_of;
 ghost use Prim.Native.Nat.{_≤_};
 ghost use lib.ListN.{length};
 ghost use mathlib.Core.Path.{_≡_};
+ghost use Rattle.order.specs.Numbers.{askedGroup};
 ghost use Rattle.order.specs.Walks.{onto};
 ghost use Rattle.store.specs.Storage.{contents};
-ghost use Rattle.replies.specs.Listing.{Enumerates};
+ghost use Rattle.replies.specs.Listing.{entryRow, Enumerates};
 ghost use Rattle.replies.specs.Orders.{JudgesAsker};
 ghost use Rattle.replies.specs.Showing.{showOn, shownOf};
 ghost use Rattle.asking.specs.Copied.{InStretch, copied};
@@ -51,7 +56,7 @@ fn ask_fault(
     if !written(head, groups, pairs) {
         return Reply::Refused(Refusal::NotWritten);
     }
-    let bad = wide(asker.0) | wide(group.0);
+    let bad = wide_radio(asker) | wide_group(group);
     if bad {
         return Reply::Refused(Refusal::BadOrder);
     }
@@ -61,6 +66,14 @@ fn ask_fault(
         Owned::Own => Reply::Done,
         Owned::Other => Reply::Refused(Refusal::NotOwner),
     }
+}
+
+// A radio and its state, as a row of the room.
+fn entry_row(radio: RadioKey, state: u64) -> [u64; ENTRY_WORDS]
+    ensures { λ r. ⌜ r ≡ entryRow (radio .0, state) ⌝ }
+{
+    let number = radio_of(radio);
+    [number.0 as u64, number.1 as u64, state]
 }
 
 // A stretch of a group's pairs is copied: each radio with its state.
@@ -78,7 +91,7 @@ fn copy_stretch(
     while i < count {
         let row = pairs[from + i];
         if let Found::Held(state) = state_in(row, group, RadioKey(row[PAIR_RADIO])) {
-            out[i] = [row[PAIR_RADIO], state];
+            out[i] = entry_row(RadioKey(row[PAIR_RADIO]), state);
         }
         i += 1;
     }
@@ -90,12 +103,13 @@ pub fn list(
     groups: &[[u64; GROUP_WORDS]],
     pairs: &[[u64; PAIR_WORDS]],
     asker: Itsi,
-    group: Gtsi,
+    asked: GroupAsked,
     out: &mut [[u64; ENTRY_WORDS]],
 ) -> Members
-    ensures { λ r. ⌜ Enumerates (contents (now (head .entry)) (now (groups .entry)) (now (pairs .entry))) asker group
+    ensures { λ r. ⌜ Enumerates (contents (now (head .entry)) (now (groups .entry)) (now (pairs .entry))) asker (askedGroup asker asked)
         (now (out .entry)) (now (out .exit)) r ⌝ }
 {
+    let group = asked_group(asker, asked);
     let fault = ask_fault(head, groups, pairs, asker, group);
     if let Reply::Refused(refusal) = fault {
         return Members::Refused(refusal);
@@ -117,10 +131,11 @@ pub fn show(
     groups: &[[u64; GROUP_WORDS]],
     pairs: &[[u64; PAIR_WORDS]],
     asker: Itsi,
-    group: Gtsi,
+    asked: GroupAsked,
 ) -> Shown
-    ensures { λ r. ⌜ r ≡ shownOf (showOn (contents (now (head .entry)) (now (groups .entry)) (now (pairs .entry))) asker group) ⌝ }
+    ensures { λ r. ⌜ r ≡ shownOf (showOn (contents (now (head .entry)) (now (groups .entry)) (now (pairs .entry))) asker (askedGroup asker asked)) ⌝ }
 {
+    let group = asked_group(asker, asked);
     let fault = ask_fault(head, groups, pairs, asker, group);
     let Reply::Done = fault else {
         return shown_none(fault);

@@ -12,7 +12,7 @@ use Rattle.refusal.specs.declared.Refusal.the-variants.{BadOrder, FormNotTaken,
 use Rattle.layout.specs.Frame.{places}
 use Rattle.rules.specs.Lists.{any, rising}
 use Rattle.rules.specs.Entries.{find}
-use Rattle.rules.specs.Number.{key, wide, badList}
+use Rattle.rules.specs.Number.{key, wideNumber, badList}
 use Rattle.rules.specs.Mark.{begun}
 use Rattle.rules.specs.Parameters.{badName, badParameters}
 use Rattle.rules.specs.Order.{Define, define, defineGroups, defineRadios, defineOwners}
@@ -33,6 +33,7 @@ use Rattle.rules.proofs.Sound.{bad-order}
 use Rattle.rules.proofs.Steps.{define-lists, define-groups-total, define-pairs-total}
 use Rattle.order.specs.Row.{orderRowOf}
 use Rattle.order.specs.Steps.{defineStep}
+use Rattle.order.specs.Numbers.{radioNumber}
 use Rattle.order.specs.declared.Itsi.{Itsi}
 use Rattle.order.specs.declared.RadioKey.{RadioKey}
 use Rattle.store.specs.Storage.{Contents, placing, groupOf, ledgerOf}
@@ -54,10 +55,10 @@ standing c w = written-form placing (ledgerOf c) (law-form c w) .standing
 
 -- ---- its tests are those of form, then those of what stands ----
 
-module _ (c : Contents) (w : Sound c) (asker : Itsi) (k : RadioKey) (same : k .0 ≡ key (asker .0)) (values : List ℕ) (room : ℕ)
+module _ (c : Contents) (w : Sound c) (asker : Itsi) (k : RadioKey) (same : k .0 ≡ key (radioNumber asker)) (values : List ℕ) (room : ℕ)
     (whole : length values ≡ places) where
   abbrev o : Define
-  o = defineOf (asker .0) values
+  o = defineOf (radioNumber asker) values
 
   abbrev form : List (Refusal × Bool)
   form = defineForm o
@@ -72,7 +73,7 @@ module _ (c : Contents) (w : Sound c) (asker : Itsi) (k : RadioKey) (same : k .0
       let n = define-groups-total placing by-number l (standing c w) o room in
       let m = define-pairs-total placing by-number l (standing c w) o room in
       λ i.
-      (BadOrder, bad-order (asker .0) values whole i)
+      (BadOrder, bad-order (radioNumber asker) values whole i)
       ∷ (FormNotTaken, o .call || anyUntaken o)
       ∷ (NotOwner, any (λ g. groupFault Taken (find eqb (l .groups) g) (sym same i)) (defineGroups o))
       ∷ (Full, ltb maxGroups (n i) || ltb maxPairs (m i))
@@ -88,7 +89,7 @@ module _ (c : Contents) (w : Sound c) (asker : Itsi) (k : RadioKey) (same : k .0
 -- ---- the row that is read says the group that the order gives, and the state is the law's ----
 
 module _ (asker : Itsi) (values : List ℕ) (l : Ledger) (room : ℕ) where
-  pub group-said : (os : List ℕ) → os ≡ rising (defineOwners (defineOf (asker .0) values)) → length os ≤ maxOwners → badName (optionalName values) ≡ false
+  pub group-said : (os : List ℕ) → os ≡ rising (defineOwners (defineOf (radioNumber asker) values)) → length os ≤ maxOwners → badName (optionalName values) ≡ false
       → groupOf (orderRowOf values os) .1 ≡ given placing (effect (view l) (defineStep asker values room))
   unfolding defineOf
   group-said os e few good =
@@ -116,11 +117,11 @@ pub record Passed (values : List ℕ) (left : Ledger) (radios groups : List ℕ)
   pub name : badName (optionalName values) ≡ false
 
 pub define-passed : (l : Ledger) (asker : Itsi) (values : List ℕ) (room : ℕ) → refused placing l (defineStep asker values room) ≡ none
-    → let o = defineOf (asker .0) values in
+    → let o = defineOf (radioNumber asker) values in
     Passed values (apply placing l (effect (view l) (defineStep asker values room))) (defineRadios o) (defineGroups o) room
 unfolding defineOf parametersIn
 define-passed l asker values room e =
-    let o = defineOf (asker .0) values in
+    let o = defineOf (radioNumber asker) values in
     let s = defineStep asker values room in
     let t = tests (view l) (tally placing l (effect (view l) s)) s in
     let a = apply placing l (effect (view l) s) in
@@ -128,7 +129,7 @@ define-passed l asker values room e =
     let manyPairs = ltb maxPairs (length (a .pairs)) in
     let full = tests-pass t e 3 in
     let lists = badList (o .groups) || (badList (o .owners) || (badList (o .radios) || badParameters (o .parameters))) in
-    let b₁ = or-r (refuses (o .judged)) lists (or-r (wide (asker .0)) (refuses (o .judged) || lists) (tests-pass t e 0)) in
+    let b₁ = or-r (refuses (o .judged)) lists (or-r (wideNumber (radioNumber asker)) (refuses (o .judged) || lists) (tests-pass t e 0)) in
     let b₂ = or-r (badList (o .groups)) (badList (o .owners) || (badList (o .radios) || badParameters (o .parameters))) b₁ in
     let b₃ = or-r (badList (o .owners)) (badList (o .radios) || badParameters (o .parameters)) b₂ in
     record {

@@ -6,6 +6,7 @@ use Rattle.rules.specs.Lists.{present, rising}
 use Rattle.rules.specs.Number.{untaken}
 use Rattle.rules.specs.Order.{Define, defineGroups, defineRadios, defineOwners}
 use Rattle.rules.specs.Recorded.{defineOf}
+use Rattle.order.specs.Numbers.{radioNumber}
 use Rattle.order.specs.Keys.{groupsAs, radiosAs, ownersAs}
 use Rattle.order.specs.declared.Itsi.{Itsi}
 use Rattle.defining.specs.declared.parts.Parts.{Parts}
@@ -16,7 +17,7 @@ anyUntaken o = untaken (o .groups) || (untaken (o .owners) || untaken (o .radios
 
 abbrev pub partsOf : Itsi → List ℕ → Parts
 partsOf asker places =
-    let o = defineOf (asker .0) places in
+    let o = defineOf (radioNumber asker) places in
     record {
       named = groupsAs (defineGroups o);
       radios = radiosAs (defineRadios o);

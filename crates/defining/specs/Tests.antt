@@ -9,7 +9,7 @@ use Rattle.refusal.specs.declared.Refusal.the-variants.{BadOrder, FormNotTaken,
 use Rattle.rules.specs.Lists.{any}
 use Rattle.rules.specs.Entries.{find}
 use Rattle.rules.specs.Mark.{Mark}
-use Rattle.rules.specs.Number.{wide}
+use Rattle.rules.specs.Number.{wideNumber}
 use Rattle.rules.specs.Order.{Define}
 use Rattle.rules.specs.Refusals.{refuses, maxGroups, maxPairs}
 use Rattle.rules.specs.Ledger.{Group, Pair}
@@ -22,7 +22,7 @@ use Rattle.defining.specs.Totals.{newGroups, newPairs}
 -- of its form
 abbrev pub defineForm : Define → List (Refusal × Bool)
 defineForm o =
-    (BadOrder, wide (o .asker) || refuses (o .judged))
+    (BadOrder, wideNumber (o .asker) || refuses (o .judged))
     ∷ (FormNotTaken, o .call || anyUntaken o)
     ∷ []
 

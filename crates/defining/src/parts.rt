@@ -28,8 +28,8 @@ pub fn parts_of(asker: Itsi, place: [u32; PLACES]) -> Parts
     let lists = lists_of(place);
     let owners = lists.owners;
     Parts {
-        named: groups_in(lists.groups),
-        radios: radios_in(lists.radios),
+        named: groups_in(asker, lists.groups),
+        radios: radios_in(asker, lists.radios),
         owners: owners_in(asker, owners),
         keeps: !owners.given,
         untaken: untaken(lists.groups) | (untaken(owners) | untaken(lists.radios)),

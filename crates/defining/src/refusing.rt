@@ -13,7 +13,7 @@ use order::keys::group_count;
 use order::keys::radio_at;
 use order::keys::radio_count;
 use order::keys::radio_key;
-use order::lists::wide;
+use order::lists::wide_radio;
 use refusal::Refusal;
 use replies::Reply;
 use rows::GROUP_COUNT;
@@ -39,6 +39,7 @@ ghost use Rattle.rules.specs.ByNumber.{lower, belowPair};
 ghost use Rattle.rules.specs.Lists.{rises};
 ghost use Rattle.rules.specs.Recorded.{defineOf};
 ghost use Rattle.rules.specs.Refusals.{maxGroups, maxPairs, first, refuses};
+ghost use Rattle.order.specs.Numbers.{radioNumber};
 ghost use Rattle.order.specs.Keys.{groupKeys, radioKeys};
 ghost use Rattle.order.specs.Steps.{defineStep};
 ghost use Rattle.store.specs.Storage.{contents, pairsOf, groupsOf};
@@ -111,9 +112,9 @@ fn refuses(judged: Judged) -> bool
 // What a define is refused with for its form.
 fn define_form_fault(asker: Itsi, place: [u32; PLACES], untaken: bool) -> Reply
     requires { ⌜ untaken ≡ partsOf asker place .untaken ⌝ }
-    ensures { λ r. ⌜ r ≡ replyOf (first (defineForm (defineOf (asker .0) place))) ⌝ }
+    ensures { λ r. ⌜ r ≡ replyOf (first (defineForm (defineOf (radioNumber asker) place))) ⌝ }
 {
-    let bad = wide(asker.0) | refuses(frame::fault(Kind::Define, &place));
+    let bad = wide_radio(asker) | refuses(frame::fault(Kind::Define, &place));
     if bad {
         return Reply::Refused(Refusal::BadOrder);
     }

@@ -10,7 +10,7 @@ use Rattle.refusal.specs.declared.Refusal.{Refusal}
 use Rattle.rules.specs.Lists.{present, mem, join}
 use Rattle.rules.specs.Entries.{alter}
 use Rattle.rules.specs.Mark.{Mark}
-use Rattle.rules.specs.Number.{numbersIn}
+use Rattle.rules.specs.Number.{key, numbersIn}
 use Rattle.rules.specs.Order.{Step}
 use Rattle.rules.specs.Effect.{effect}
 use Rattle.rules.specs.Outgoing.{deassign, orders, outgoing}
@@ -19,6 +19,7 @@ use Rattle.rules.specs.Ledger.{Group, Pair, view, members}
 use Rattle.rules.specs.Steps.{tally, apply, refused}
 use Rattle.rules.proofs.Walks.{alter-all}
 use Rattle.rules.proofs.Listing.{stretch-members}
+use Rattle.order.specs.Numbers.{radioNumber}
 use Rattle.order.specs.Lists.{numbersOf, listOf}
 use Rattle.order.specs.Steps.{deleteStep}
 use Rattle.order.specs.declared.Itsi.{Itsi}
@@ -64,14 +65,14 @@ module _ (c : Contents) (w : Sound c) where
     forms = formTests asker named deassign radios
 
     abbrev pub stands : List (Refusal × Bool)
-    stands = standTests (ledgerOf c .groups) (ledgerOf c .pairs) (asker .0) (numbersIn (listOf named))
-        remove deassign (radios .given) (numbersIn (listOf radios)) room
+    stands = standTests (ledgerOf c .groups) (ledgerOf c .pairs) (key (radioNumber asker)) (numbersIn (asker .1) (listOf named))
+        remove deassign (radios .given) (numbersIn (asker .1) (listOf radios)) room
 
     pub delete-sends : outgoing (view (ledgerOf c)) (tally placing (ledgerOf c) (effect (view (ledgerOf c)) step)) step
-        ≡ leavingOrders deassign (radios .given) (numbersIn (listOf radios)) (ledgerOf c .pairs) (numbersIn (listOf named))
+        ≡ leavingOrders deassign (radios .given) (numbersIn (asker .1) (listOf radios)) (ledgerOf c .pairs) (numbersIn (asker .1) (listOf named))
     delete-sends = rw given (join-same _ _
-        (λ g. rw (given-present (radios .given) (numbersOf (radios .numbers))) (all-leave deassign (radios .given) (numbersIn (listOf radios)) g))
-        (numbersIn (some (numbersOf (named .numbers)))))
+        (λ g. rw (given-present (radios .given) (numbersOf (radios .numbers))) (all-leave deassign (radios .given) (numbersIn (asker .1) (listOf radios)) g))
+        (numbersIn (asker .1) (some (numbersOf (named .numbers)))))
 
     -- its tests are those of form, then those of what stands
     delete-tests : tests (view (ledgerOf c)) (tally placing (ledgerOf c) (effect (view (ledgerOf c)) step)) step ≡ forms ++ stands
@@ -86,7 +87,7 @@ module _ (c : Contents) (w : Sound c) where
     -- a delete that is taken has something to do, and room for its orders
     pub delete-passed : refused placing (ledgerOf c) step ≡ none
         → ((not remove && not deassign) ≡ false)
-        × (length (leavingOrders deassign (radios .given) (numbersIn (listOf radios)) (ledgerOf c .pairs) (numbersIn (listOf named))) ≤ room)
+        × (length (leavingOrders deassign (radios .given) (numbersIn (asker .1) (listOf radios)) (ledgerOf c .pairs) (numbersIn (asker .1) (listOf named))) ≤ room)
     delete-passed e =
         let l = tests (view (ledgerOf c)) (tally placing (ledgerOf c) (effect (view (ledgerOf c)) step)) step in
         (tests-pass l e 4, rw (← delete-sends) (ltb-false room _ (tests-pass l e 5)))
@@ -120,18 +121,18 @@ deleted-groups false named l = sym (alter-all l)
 module _ (c : Contents) (w : Sound c) (asker : Itsi) (named : Listed) (given : named .given ≡ true) (remove deassign : Bool) (radios : Listed) (room : ℕ)
     (some-work : (not remove && not deassign) ≡ false) where
   pub deleted-laid : (n m : ℕ) (groups pairs : Rows)
-      → Fills groupRow (groupsLeft (numbersIn (listOf named)) remove (ledgerOf c .groups)) (c .groups) groups n
-      → Fills pairRow (pairsLeft (numbersIn (listOf named)) remove (radios .given) (numbersIn (listOf radios)) (ledgerOf c .pairs)) (c .pairs) pairs m
+      → Fills groupRow (groupsLeft (numbersIn (asker .1) (listOf named)) remove (ledgerOf c .groups)) (c .groups) groups n
+      → Fills pairRow (pairsLeft (numbersIn (asker .1) (listOf named)) remove (radios .given) (numbersIn (asker .1) (listOf radios)) (ledgerOf c .pairs)) (c .pairs) pairs m
       → contents (set (set (c .head) 0 n) 1 m) groups pairs
       ≡ laid (apply placing (ledgerOf c) (effect (view (ledgerOf c)) (deleteStep asker (named .numbers) remove deassign radios room))) c
   deleted-laid n m groups pairs fg fp =
       let after = apply placing (ledgerOf c) (effect (view (ledgerOf c)) (deleteStep asker (named .numbers) remove deassign radios room)) in
-      let gs = numbersIn (listOf named) in
-      let rs = numbersIn (listOf radios) in
+      let gs = numbersIn (asker .1) (listOf named) in
+      let rs = numbersIn (asker .1) (listOf radios) in
       let g : groupsLeft gs remove (ledgerOf c .groups) ≡ after .groups =
-      rw given (deleted-groups remove (numbersIn (some (numbersOf (named .numbers)))) (ledgerOf c .groups)) in
+      rw given (deleted-groups remove (numbersIn (asker .1) (some (numbersOf (named .numbers)))) (ledgerOf c .groups)) in
       let p : pairsLeft gs remove (radios .given) rs (ledgerOf c .pairs) ≡ after .pairs =
-      rw given (alter-same _ _ (λ k x. deleted-turn x remove deassign some-work (radios .given) (numbersIn (some (numbersOf (named .numbers)))) rs k
+      rw given (alter-same _ _ (λ k x. deleted-turn x remove deassign some-work (radios .given) (numbersIn (asker .1) (some (numbersOf (named .numbers)))) rs k
       ∙ rw (given-present (radios .given) (numbersOf (radios .numbers)))) (ledgerOf c .pairs)) in
       let hd = set-both (c .head) n m (w .head) ∙ (λ i. onto ((fg .counts ∙ ap length g) i ∷ (fp .counts ∙ ap length p) i ∷ []) (c .head)) in
       let gl = fg .rows ∙ ap (λ (z : List (ℕ × Group)). onto (map groupRow z) (c .groups)) g in

@@ -9,8 +9,9 @@ use Rattle.refusal.specs.declared.Refusal.the-variants.{BadOrder, FormNotTaken,
 use Rattle.rules.specs.Lists.{any}
 use Rattle.rules.specs.Entries.{find, alter}
 use Rattle.rules.specs.Mark.{Mark}
-use Rattle.rules.specs.Number.{wide, badList, untaken}
+use Rattle.rules.specs.Number.{wideNumber, badList, untaken}
 use Rattle.rules.specs.Ledger.{Group, Pair}
+use Rattle.order.specs.Numbers.{radioNumber}
 use Rattle.order.specs.Lists.{listOf}
 use Rattle.order.specs.declared.Itsi.{Itsi}
 use Rattle.order.specs.declared.Listed.{Listed}
@@ -24,7 +25,7 @@ use Rattle.deleting.specs.Leaving.{leavingOrders, remaining}
 -- the tests of its form
 abbrev pub formTests : Itsi → Listed → Bool → Listed → List (Refusal × Bool)
 formTests asker groups deassign radios =
-    (BadOrder, wide (asker .0) || (badList (listOf groups) || (badList (listOf radios) || (radios .given && not deassign))))
+    (BadOrder, wideNumber (radioNumber asker) || (badList (listOf groups) || (badList (listOf radios) || (radios .given && not deassign))))
     ∷ (FormNotTaken, untaken (listOf groups) || untaken (listOf radios))
     ∷ []
 

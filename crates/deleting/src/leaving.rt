@@ -1,5 +1,6 @@
 // The radios that a delete deassigns in a group.
 use order::GroupKey;
+use order::RadioKey;
 use order::Radios;
 use order::keys::radio_at;
 use order::keys::radio_count;
@@ -8,6 +9,7 @@ use rows::ORDER_WORDS;
 use rows::PAIR_RADIO;
 use rows::PAIR_WORDS;
 use sending::DEASSIGN;
+use sending::order_row;
 use sending::push_orders;
 use store::places::pair_place;
 use store::places::stands;
@@ -86,7 +88,7 @@ fn push_stretch(
     let mut i: usize = 0;
     while i < count {
         let row = pairs[from + i];
-        out[at + i] = [DEASSIGN, row[PAIR_RADIO], group.0];
+        out[at + i] = order_row(DEASSIGN, RadioKey(row[PAIR_RADIO]), group);
         i += 1;
     }
 }

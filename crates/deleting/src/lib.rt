@@ -44,8 +44,8 @@ pub fn delete(
         given: true,
         numbers: named,
     };
-    let these = groups_in(list);
-    let those = radios_in(radios);
+    let these = groups_in(asker, list);
+    let those = radios_in(asker, radios);
     let fault = delete_fault(
         head,
         groups,

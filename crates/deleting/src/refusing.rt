@@ -8,7 +8,7 @@ use order::Radios;
 use order::keys::radio_key;
 use order::lists::bad_list;
 use order::lists::untaken;
-use order::lists::wide;
+use order::lists::wide_radio;
 use refusal::Refusal;
 use replies::Reply;
 use rows::GROUP_COUNT;
@@ -37,7 +37,8 @@ ghost use Rattle.deleting.specs.Leaving.{Stretches};
 fn form_fault(asker: Itsi, named: Listed, deassign: bool, radios: Listed) -> Reply
     ensures { λ r. ⌜ r ≡ replyOf (first (formTests asker named deassign radios)) ⌝ }
 {
-    let bad = wide(asker.0) | (bad_list(named) | (bad_list(radios) | (radios.given & !deassign)));
+    let bad = wide_radio(asker)
+        | (bad_list(named) | (bad_list(radios) | (radios.given & !deassign)));
     if bad {
         return Reply::Refused(Refusal::BadOrder);
     }
@@ -96,8 +97,8 @@ pub fn delete_fault(
     those: Radios,
     room: usize,
 ) -> Reply
-    requires { ⌜ (named .given ≡ true) × (these ≡ groupsAs (numbersIn (listOf named)))
-        × (those ≡ radiosAs (numbersIn (listOf radios))) ⌝ }
+    requires { ⌜ (named .given ≡ true) × (these ≡ groupsAs (numbersIn (asker .1) (listOf named)))
+        × (those ≡ radiosAs (numbersIn (asker .1) (listOf radios))) ⌝ }
     ensures { λ r. ⌜ Judges (contents (now (head .entry)) (now (groups .entry)) (now (pairs .entry)))
         (deleteStep asker (named .numbers) remove deassign radios room) r ⌝ }
 {

@@ -41,11 +41,14 @@ state-in-requires c κs = search needs
 enum-known-state : tie.Need-enum-known-state Inv-loop μ-loop
 enum-known-state c = search needs
 
-array-read-t21 : tie.Need-array-read-t21 Inv-loop μ-loop
-array-read-t21 c = search needs
+array-read-t22 : tie.Need-array-read-t22 Inv-loop μ-loop
+array-read-t22 c = search needs
 
-mul-t23 : tie.Need-mul-t23 Inv-loop μ-loop
-mul-t23 c = search needs
+entry-row-requires : tie.Need-entry-row-requires Inv-loop μ-loop
+entry-row-requires c κs = search needs
+
+mul-t24 : tie.Need-mul-t24 Inv-loop μ-loop
+mul-t24 c = search needs
 
 slice-set-from-out : tie.Need-slice-set-from-out Inv-loop μ-loop
 slice-set-from-out c = search needs
@@ -73,8 +76,9 @@ loop-again c =
     ⊎-elim
     (λ w.
     let state : w .1 .given .0 .0 ≡ pairOf row .1 .state = cc (held, w .1 .given .1) in
-    let t = turn _ _ (omega arith) (omega (arith, p .1)) (l .inv .2) (ap (λ (z : ℕ). entryRow (pairOf row .0 .1, z)) state ∙ at) in
-    (search needs, ap length (w .3) ∙ t .0, w .3 ∙ t .1))
+    let t = turn _ _ (omega arith) (omega (arith, p .1)) (l .inv .2)
+    (w .3 .ensures ∙ ap (λ (z : ℕ). entryRow (pairOf row .0 .1, z)) state ∙ at) in
+    (search needs, ap length (w .4) ∙ t .0, w .4 ∙ t .1))
     (λ w. let z : _≡_ {A = ℕ} 0 1 = cc held in absurd (omega arith))
     (c .match .came)
 
@@ -101,8 +105,9 @@ copy-stretch-spec =
     array-read-t17
     state-in-requires
     enum-known-state
-    array-read-t21
-    mul-t23
+    array-read-t22
+    entry-row-requires
+    mul-t24
     slice-set-from-out
     enum-told
     add-i

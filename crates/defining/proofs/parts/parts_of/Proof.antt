@@ -7,6 +7,7 @@ use Rattle.rules.specs.Lists.{present, rising}
 use Rattle.rules.specs.Number.{Numbers, key, numbersIn, untaken}
 use Rattle.rules.specs.Recorded.{defineOf}
 use Rattle.rules.proofs.ListLaws.{rising-once}
+use Rattle.order.specs.Numbers.{radioNumber}
 use Rattle.order.specs.Keys.{groupsAs, radiosAs, ownersAs}
 use Rattle.order.specs.Lists.{listOf}
 use Rattle.order.specs.Recorded.{ownerList}
@@ -54,19 +55,19 @@ returns c =
     let l = g .before .before in
     let a = l .before .args in
     let lists = l .lists-of .ensures in
-    let gs = lists-said (a .asker .0) (a .place) in
-    let os = owners-said (a .asker .0) (a .place) in
-    let rs = radios-said (a .asker .0) (a .place) in
+    let gs = lists-said (radioNumber (a .asker)) (a .place) in
+    let os = owners-said (radioNumber (a .asker)) (a .place) in
+    let rs = radios-said (radioNumber (a .asker)) (a .place) in
     let named = g .groups-in .ensures
-    ∙ ap (λ (d : DefineLists). groupsAs (numbersIn (listOf (d .groups)))) lists
-    ∙ ap (λ (n : Option Numbers). groupsAs (numbersIn n)) gs in
+    ∙ ap (λ (d : DefineLists). groupsAs (numbersIn (a .asker .1) (listOf (d .groups)))) lists
+    ∙ ap (λ (n : Option Numbers). groupsAs (numbersIn (a .asker .1) n)) gs in
     let radios = o .before .radios-in .ensures
-    ∙ ap (λ (d : DefineLists). radiosAs (numbersIn (listOf (d .radios)))) lists
-    ∙ ap (λ (n : Option Numbers). radiosAs (numbersIn n)) rs in
+    ∙ ap (λ (d : DefineLists). radiosAs (numbersIn (a .asker .1) (listOf (d .radios)))) lists
+    ∙ ap (λ (n : Option Numbers). radiosAs (numbersIn (a .asker .1) n)) rs in
     let owners = o .owners-in .ensures
-    ∙ ap (λ (d : DefineLists). ownersAs (rising (key (a .asker .0) ∷ numbersIn (listOf (d .owners))))) lists
-    ∙ ap (λ (n : Option Numbers). ownersAs (rising (key (a .asker .0) ∷ numbersIn n))) os
-    ∙ ap ownersAs (sym (rising-once (key (a .asker .0) ∷ numbersIn (defineOf (a .asker .0) (a .place) .owners)))) in
+    ∙ ap (λ (d : DefineLists). ownersAs (rising (key (radioNumber (a .asker)) ∷ numbersIn (a .asker .1) (listOf (d .owners))))) lists
+    ∙ ap (λ (n : Option Numbers). ownersAs (rising (key (radioNumber (a .asker)) ∷ numbersIn (a .asker .1) n))) os
+    ∙ ap ownersAs (sym (rising-once (key (radioNumber (a .asker)) ∷ numbersIn (a .asker .1) (defineOf (radioNumber (a .asker)) (a .place) .owners)))) in
     let keeps = ap (λ (d : DefineLists). not (d .owners .given)) lists ∙ ap not (given-present (ownerList (a .place)))
     ∙ ap (λ (n : Option Numbers). not (present n)) os in
     let groups-un = c .before .before .untaken .ensures ∙ ap (λ (d : DefineLists). untaken (listOf (d .groups))) lists ∙ ap untaken gs in

@@ -1,11 +1,11 @@
 -- `deleting::push_stretch` meets its contract: orders to the first i radios of the stretch are laid.
 use mathlib.Core.Path.{_≡_, refl, sym, ap, _∙_}
 use native.Mathlib.Omega.{arith}
-use Prim.Native.Nat.{ℕ, _+_, _≤_, _-_}
-use mathlib.Core.List.{[], _∷_}
-use lib.ListN.{length, set, length-set}
+use Prim.Native.Nat.{ℕ, _≤_, _-_}
+use lib.ListN.{length, length-set}
 use lib.Seq.{paste, paste-zero}
 use Rattle.rules.specs.Outgoing.{deassign}
+use Rattle.replies.specs.Sending.{orderRow}
 use Rattle.sending.proofs.Pushing.{push-turn}
 use Rattle.deleting.specs.Leaving.{leavingRows, stretchRadios}
 use Rattle.deleting.proofs.LeavingLaws.{radios-count, radio-in}
@@ -37,8 +37,11 @@ mul-row c = search needs
 shared-slice-copy-out-row : tie.Need-shared-slice-copy-out-row Inv-loop μ-loop
 shared-slice-copy-out-row c = search needs
 
-array-read-t17 : tie.Need-array-read-t17 Inv-loop μ-loop
-array-read-t17 c = search needs
+array-read-t18 : tie.Need-array-read-t18 Inv-loop μ-loop
+array-read-t18 c = search needs
+
+order-row-requires : tie.Need-order-row-requires Inv-loop μ-loop
+order-row-requires c κs = search needs
 
 add-t11 : tie.Need-add-t11 Inv-loop μ-loop
 add-t11 c = search needs
@@ -57,14 +60,16 @@ loop-less c = search needs
 
 loop-again : tie.Need-loop-again Inv-loop μ-loop
 loop-again c =
-    let entry = c .before .before .before in
+    let entry = c .before .before .before .before in
     let a = entry .args in
-    let l = c .before .before .loop in
+    let l = c .before .before .before .loop in
     let radios = stretchRadios (a .from) (a .to) (a .pairs .now) in
     let n = radios-count (a .from) (a .to) (a .pairs .now) (entry .pre .1) in
-    let t = push-turn radios (l .out) (a .out .now) (a .at) deassign (a .group .0) (l .i) (omega (arith, n)) (omega (arith, n, entry .pre .2)) (l .inv .2) in
     let r = radio-in (a .from) (a .to) (a .pairs .now) (l .i) (omega arith) in
-    (search needs, simp length-set (l .inv .1), ap (λ (x : ℕ). set (l .out) (a .at + l .i) (deassign ∷ x ∷ a .group .0 ∷ [])) (sym r) ∙ t)
+    let row = c .order-row .ensures ∙ ap (λ (x : ℕ). orderRow (record { kind = deassign; radio = x; group = a .group .0 })) (sym r) in
+    let t = push-turn radios (l .out) (a .out .now) (a .at) deassign (a .group .0) (l .i) (omega (arith, n)) (omega (arith, n, entry .pre .2)) (l .inv .2)
+    _ row in
+    (search needs, simp length-set (l .inv .1), t)
 
 same-length : tie.Need-same-length Inv-loop μ-loop
 same-length c = search needs
@@ -86,7 +91,8 @@ push-stretch-spec =
     add-row
     mul-row
     shared-slice-copy-out-row
-    array-read-t17
+    array-read-t18
+    order-row-requires
     add-t11
     mul-t12
     slice-set-from-out
