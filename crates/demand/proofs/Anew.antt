@@ -1,6 +1,6 @@
 -- A place means nothing: the history alone says what a list holds. A group deleted and made again starts empty.
 use mathlib.Core.Path.{_≡_, refl, sym, ap, _∙_}
-use mathlib.Core.Bool.{Bool, true}
+use mathlib.Core.Bool.{Bool, true, false}
 use mathlib.Core.List.{List, [], map}
 use mathlib.Core.Option.{Option, none, some}
 use Prim.Native.Nat.{ℕ}
@@ -9,7 +9,7 @@ use lib.ListN.{length}
 use Rattle.refusal.specs.declared.Refusal.{Refusal}
 use Rattle.layout.specs.declared.Record.{Record}
 use Rattle.rules.specs.Lists.{mem}
-use Rattle.rules.specs.Number.{numbers}
+use Rattle.rules.specs.Number.{Number, key, wideNumber, numbers}
 use Rattle.rules.specs.Order.{Delete, define, delete, defineGroups}
 use Rattle.rules.specs.Recorded.{defineOf}
 use Rattle.rules.specs.Ledger.{list}
@@ -18,12 +18,13 @@ use Rattle.rules.specs.Run.{run}
 use Rattle.rules.proofs.ByNumber.{by-number}
 use Rattle.rules.proofs.Agree.{list-agree}
 use Rattle.rules.proofs.Anew as rules
+use Rattle.order.specs.Numbers.{radioNumber, askedNumber}
 use Rattle.order.specs.Walks.{onto}
 use Rattle.store.specs.Storage.{Rows, Contents, placing}
 use Rattle.order.specs.Lists.{numbersOf, listOf}
 use Rattle.replies.specs.Sending.{sentReply}
 use Rattle.replies.specs.Listing.{entryRow, membersOf}
-use Rattle.order.specs.declared.Gtsi.{Gtsi}
+use Rattle.order.specs.declared.GroupAsked.{GroupAsked}
 use Rattle.order.specs.declared.Itsi.{Itsi}
 use Rattle.order.specs.declared.Numbers.{Numbers}
 use Rattle.order.specs.declared.Listed.{Listed}
@@ -36,20 +37,20 @@ use Rattle.demand.specs.Runs.{Kept, defined, deleted}
 use Rattle.demand.proofs.Demand.{demand}
 
 -- two runs with one history, whatever lay in the lent places before them and wherever their rows lie
-module _ {c c′ : Contents} {h : History} (k : Kept c h) (k′ : Kept c′ h) {asker : Itsi} {group : Gtsi} where
-  pub same-lists : {room listed listed′ : Rows} {reply reply′ : Members} → Lists asker group room listed c reply → Lists asker group room listed′ c′ reply′
+module _ {c c′ : Contents} {h : History} (k : Kept c h) (k′ : Kept c′ h) {asker : Itsi} {asked : GroupAsked} where
+  pub same-lists : {room listed listed′ : Rows} {reply reply′ : Members} → Lists asker asked room listed c reply → Lists asker asked room listed′ c′ reply′
       → (reply ≡ reply′) × (listed ≡ listed′)
   same-lists e e′ =
       let a = demand k .lists e in
       let b = demand k′ .lists e′ in
       (a .0 ∙ sym (b .0), a .1 ∙ sym (b .1))
 
-  pub same-shows : {reply reply′ : Shown} → Shows asker group c reply → Shows asker group c′ reply′ → reply ≡ reply′
+  pub same-shows : {reply reply′ : Shown} → Shows asker asked c reply → Shows asker asked c′ reply′ → reply ≡ reply′
   same-shows e e′ = demand k .shows e ∙ sym (demand k′ .shows e′)
 
 -- ---- a group deleted and made again ----
 
-defined-by : (asker : ℕ) (places : List ℕ) → defineOf asker places .asker ≡ asker
+defined-by : (asker : Number) (places : List ℕ) → defineOf asker places .asker ≡ asker
 unfolding defineOf
 defined-by asker places = refl
 
@@ -63,22 +64,23 @@ pub again-empty : {c₀ c₁ c₂ : Contents} {h : History} → Kept c₀ h
     → {asker : Itsi} {named : Numbers} {deassign : Bool} {radios : Listed} {space sent : Rows} {n : ℕ}
     → Deletes asker named true deassign radios space sent c₀ c₁ (Orders n)
     → {maker : Itsi} {values : Record} {space′ sent′ : Rows} {n′ : ℕ} → Defines maker values space′ sent′ c₁ c₂ (Orders n′)
-    → {group : Gtsi} {room listed : Rows} {reply : Members} → Lists maker group room listed c₂ reply
-    → mem (group .0) (numbers (numbersOf named)) ≡ true
-    → mem (group .0) (defineGroups (defineOf (maker .0) (values .place))) ≡ true
-    → defineOf (maker .0) (values .place) .radios ≡ none
+    → {asked : GroupAsked} {room listed : Rows} {reply : Members} → Lists maker asked room listed c₂ reply
+    → let g = askedNumber maker asked in
+    let o = defineOf (radioNumber maker) (values .place) in
+    wideNumber g ≡ false → mem (key g) (numbers (asker .1) (numbersOf named)) ≡ true → mem (key g) (defineGroups o) ≡ true → o .radios ≡ none
     → (reply ≡ Radios 0) × (listed ≡ room)
-again-empty {h = h} k {asker} {named} {deassign} {radios} {space} {n = n} a {maker} {values} {space′} {n′ = n′} b {group} {room} e gone made none-listed =
-    let d : Delete = record { asker = asker .0; groups = numbersOf named; delete = true; deassign = deassign; radios = listOf radios } in
-    let o = defineOf (maker .0) (values .place) in
+again-empty {h = h} k {asker} {named} {deassign} {radios} {space} {n = n} a {maker} {values} {space′} {n′ = n′} b {asked} {room} e narrow gone made none-listed =
+    let d : Delete = record { asker = radioNumber asker; groups = numbersOf named; delete = true; deassign = deassign; radios = listOf radios } in
+    let o = defineOf (radioNumber maker) (values .place) in
+    let g = askedNumber maker asked in
     let s = delete d (length space) in
     let s′ = define o (length space′) in
     let k₁ = deleted k a in
     let taken = sent-none (refusalIn h s) n (length (sentIn h s)) (demand k .deletes a .0) in
     let taken′ = sent-none (refusalIn (h then s) s′) n′ (length (sentIn (h then s) s′)) (demand k₁ .defines b .0) in
-    let l : listIn (h then s then s′) (maker .0) (group .0) (length room) ≡ record { refused = none; entries = [] } =
-    sym (list-agree placing by-number (h then s then s′) (maker .0) (group .0) (length room))
-    ∙ ap (λ (x : ℕ). list (run placing (h then s then s′)) x (group .0) (length room)) (sym (defined-by (maker .0) (values .place)))
-    ∙ rules.again-empty placing by-number h d o (group .0) (length space) (length space′) (length room) taken refl gone taken′ made none-listed in
+    let l : listIn (h then s then s′) (radioNumber maker) g (length room) ≡ record { refused = none; entries = [] } =
+    sym (list-agree placing by-number (h then s then s′) (radioNumber maker) g (length room))
+    ∙ ap (λ (x : Number). list (run placing (h then s then s′)) x g (length room)) (sym (defined-by (radioNumber maker) (values .place)))
+    ∙ rules.again-empty placing by-number h d o g (length space) (length space′) (length room) narrow taken refl gone taken′ made none-listed in
     let f = demand (defined k₁ b) .lists e in
     (f .0 ∙ ap membersOf l, f .1 ∙ (λ i. onto (map entryRow (l i .entries)) room))

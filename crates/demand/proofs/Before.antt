@@ -17,6 +17,7 @@ use Rattle.rules.proofs.Arrival.{by-arrival}
 use Rattle.rules.proofs.Agree.{refusal-agree, sent-agree, list-agree, show-agree}
 use Rattle.rules.proofs.Alike.{as-before}
 use Rattle.rules.proofs.Stretches.{run-in-stretches}
+use Rattle.order.specs.Numbers.{radioNumber, askedNumber}
 use Rattle.order.specs.Steps.{answerStep, defineStep, deleteStep}
 use Rattle.order.specs.Walks.{onto}
 use Rattle.store.specs.Storage.{Rows, Contents, ledgerOf}
@@ -59,10 +60,10 @@ before {c} {h} k =
           sent-before h (deleteStep asker named remove deassign radios (length room)) room rows reply (f .deletes e);
       answers = λ {radio} {group} {result} e. f .answers e ∙ reply-before h (answerStep radio group result);
       ticks = λ e. f .ticks e ∙ reply-before h tick;
-      lists = λ {asker} {group} {room} {listed} e.
-          let l = sym (list-agree byArrival by-arrival h (asker .0) (group .0) (length room)) in (
+      lists = λ {asker} {asked} {room} {listed} e.
+          let l = sym (list-agree byArrival by-arrival h (radioNumber asker) (askedNumber asker asked) (length room)) in (
             f .lists e .0 ∙ ap membersOf l,
             f .lists e .1 ∙ ap (λ (z : Listing). onto (map entryRow (z .entries)) room) l,
           );
-      shows = λ {asker} {group} e. f .shows e ∙ ap shownOf (sym (show-agree byArrival by-arrival h (asker .0) (group .0)));
+      shows = λ {asker} {asked} e. f .shows e ∙ ap shownOf (sym (show-agree byArrival by-arrival h (radioNumber asker) (askedNumber asker asked)));
     }

@@ -6,6 +6,7 @@ use Prim.Native.Nat.{ℕ}
 use lib.ListN.{length}
 use Rattle.layout.specs.declared.Record.{Record}
 use Rattle.rules.specs.Order.{Step, tick}
+use Rattle.order.specs.Numbers.{askedGroup}
 use Rattle.order.specs.Steps.{answerStep, defineStep, deleteStep}
 use Rattle.order.specs.Walks.{onto}
 use Rattle.store.specs.Storage.{Rows, Contents}
@@ -15,6 +16,7 @@ use Rattle.replies.specs.Listing.{entryRow, listOn, membersOf}
 use Rattle.replies.specs.Showing.{showOn, shownOf}
 use Rattle.order.specs.declared.Gtsi.{Gtsi}
 use Rattle.order.specs.declared.Itsi.{Itsi}
+use Rattle.order.specs.declared.GroupAsked.{GroupAsked}
 use Rattle.order.specs.declared.Numbers.{Numbers}
 use Rattle.order.specs.declared.Listed.{Listed}
 use Rattle.replies.specs.declared.Reply.{Reply}
@@ -63,13 +65,14 @@ module _ {c c′ : Contents} where
         sends = sym (e .sends) ∙ e .meets .sends ∙ (λ i. onto (map orderRow (sentOn (e .starts i) (s (e .roomed i)))) (e .roomed i));
       }
 
-module _ {c : Contents} {asker : Itsi} {group : Gtsi} where
-  pub list-says : {room listed : Rows} {reply : Members} → Lists asker group room listed c reply
-      → (reply ≡ membersOf (listOn c asker group (length room))) × (listed ≡ onto (map entryRow (listOn c asker group (length room) .entries)) room)
-  list-says e = (
-    e .meets .replies ∙ (λ i. membersOf (listOn (e .stands i) asker group (length (e .roomed i)))),
-    sym (e .lists) ∙ e .meets .lists ∙ (λ i. onto (map entryRow (listOn (e .stands i) asker group (length (e .roomed i)) .entries)) (e .roomed i)),
+module _ {c : Contents} {asker : Itsi} {asked : GroupAsked} where
+  pub list-says : {room listed : Rows} {reply : Members} → Lists asker asked room listed c reply
+      → let g = askedGroup asker asked in
+      (reply ≡ membersOf (listOn c asker g (length room))) × (listed ≡ onto (map entryRow (listOn c asker g (length room) .entries)) room)
+  list-says e = let g = askedGroup asker asked in (
+    e .meets .replies ∙ (λ i. membersOf (listOn (e .stands i) asker g (length (e .roomed i)))),
+    sym (e .lists) ∙ e .meets .lists ∙ (λ i. onto (map entryRow (listOn (e .stands i) asker g (length (e .roomed i)) .entries)) (e .roomed i)),
   )
 
-  pub show-says : {reply : Shown} → Shows asker group c reply → reply ≡ shownOf (showOn c asker group)
-  show-says e = e .meets ∙ (λ i. shownOf (showOn (e .stands i) asker group))
+  pub show-says : {reply : Shown} → Shows asker asked c reply → reply ≡ shownOf (showOn c asker (askedGroup asker asked))
+  show-says e = e .meets ∙ (λ i. shownOf (showOn (e .stands i) asker (askedGroup asker asked)))

@@ -1,12 +1,15 @@
 -- Demand 3 over the contracts: on the contents that any run has left, every call answers as the run's history says.
-use mathlib.Core.Path.{_≡_, refl, ap, _∙_}
+use mathlib.Core.Path.{_≡_, refl, sym, ap, _∙_}
 use mathlib.Core.Bool.{Bool, true, false, cond}
 use mathlib.Core.List.{List, [], map}
 use mathlib.Core.Option.{Option, some}
 use Prim.Native.Nat.{ℕ, _≤_}
-use lib.ListN.{length}
+use lib.ListN.{length, take, replicate, length-map}
+use lib.Seq.{take-append-seam}
 use Rattle.refusal.specs.declared.Refusal.{Refusal}
 use Rattle.refusal.specs.declared.Refusal.the-variants.{NotWritten}
+use Rattle.rules.specs.Lists.{any, mem}
+use Rattle.rules.specs.Number.{Number, key, sameNumber, wideKey}
 use Rattle.rules.specs.Order.{Step}
 use Rattle.rules.specs.Outgoing.{Outgoing}
 use Rattle.rules.specs.Parameters.{noParameters}
@@ -14,27 +17,32 @@ use Rattle.rules.specs.Refusals.{accepted}
 use Rattle.rules.specs.Replies as replies
 use Rattle.rules.specs.Ledger.{Ledger, list, show}
 use Rattle.rules.specs.Steps.{refused, sent}
-use Rattle.rules.specs.History.{History, owner, radiosIn, refusalIn, sentIn}
+use Rattle.rules.specs.History.{History, radiosIn, refusalIn, sentIn}
 use Rattle.rules.specs.Run.{run}
+use Rattle.rules.specs.Written.{maxOwners}
+use Rattle.rules.specs.Demand.{Owns}
 use Rattle.rules.proofs.ByNumber.{by-number}
 use Rattle.rules.proofs.Agree.{refusal-agree, sent-agree, list-agree, show-agree}
-use Rattle.rules.proofs.Demand.{list-exact, show-exact}
+use Rattle.rules.proofs.Demand.{list-exact, show-exact, exact-narrow, owner-narrow}
+use Rattle.order.specs.Numbers.{radioNumber, groupNumber, radioAt, askedGroup, askedNumber}
 use Rattle.order.specs.Walks.{onto}
 use Rattle.store.specs.Storage.{Rows, Contents, placing}
 use Rattle.replies.specs.Orders.{replyOf, verdict, Replies}
 use Rattle.replies.specs.Sending.{orderRow, sentOn, sentReply, Sends}
 use Rattle.replies.specs.Listing.{entryRow, listOn, membersReply, membersOf}
-use Rattle.replies.specs.Showing.{showOn, shownAs, shownOf}
+use Rattle.replies.specs.Showing.{showOn, nobody, shownAs, shownOf}
 use Rattle.order.specs.declared.Gtsi.{Gtsi}
 use Rattle.order.specs.declared.Itsi.{Itsi}
+use Rattle.order.specs.declared.GroupAsked.{GroupAsked}
 use Rattle.replies.specs.declared.Reply.{Reply}
 use Rattle.replies.specs.declared.Sent.{Sent}
 use Rattle.replies.specs.declared.Members.{Members}
 use Rattle.replies.specs.declared.Shown.{Shown}
 use Rattle.demand.specs.Calls.{Lists, Shows}
 use Rattle.demand.specs.Runs.{Kept}
-use Rattle.demand.specs.Demand.{ListsExactly, ShowsExactly, Faithful}
+use Rattle.demand.specs.Demand.{stateIn, ListsExactly, shownOwner, ShowsExactly, Faithful}
 use Rattle.demand.proofs.Calls.{tick-says, answer-says, define-says, delete-says, list-says, show-says}
+use Rattle.demand.proofs.Parts.{state-told, owner-told}
 use Rattle.demand.proofs.Runs.{Stands, run-stands}
 
 -- what is sent twice over, sent once
@@ -52,12 +60,12 @@ module _ {c : Contents} {h : History} (k : Stands c h) where
       (λ i. cond (accepted (judged-alike s i)) ((ap (λ (l : Ledger). sent placing l s) (k .says) ∙ sent-agree placing by-number h s) i) [])
       ∙ once-sent (accepted (refusalIn h s)) _
 
-  pub listed-alike : (asker : Itsi) (group : Gtsi) (room : ℕ) → listOn c asker group room ≡ list (run placing h) (asker .0) (group .0) room
-  listed-alike asker group room = λ i. cond (k .sound .form i) (list (k .says i) (asker .0) (group .0) room)
+  pub listed-alike : (asker : Itsi) (group : Gtsi) (room : ℕ) → listOn c asker group room ≡ list (run placing h) (radioNumber asker) (groupNumber group) room
+  listed-alike asker group room = λ i. cond (k .sound .form i) (list (k .says i) (radioNumber asker) (groupNumber group) room)
       (record { refused = some NotWritten; entries = [] })
 
-  pub shown-alike : (asker : Itsi) (group : Gtsi) → showOn c asker group ≡ show (run placing h) (asker .0) (group .0)
-  shown-alike asker group = λ i. cond (k .sound .form i) (show (k .says i) (asker .0) (group .0))
+  pub shown-alike : (asker : Itsi) (group : Gtsi) → showOn c asker group ≡ show (run placing h) (radioNumber asker) (groupNumber group)
+  shown-alike asker group = λ i. cond (k .sound .form i) (show (k .says i) (radioNumber asker) (groupNumber group))
       (record { refused = some NotWritten; owners = []; parameters = noParameters })
 
   replies-alike : {s : Step} {c′ : Contents} {reply : Reply} → Replies s c c′ reply → reply ≡ replyOf (refusalIn h s)
@@ -70,37 +78,55 @@ module _ {c : Contents} {h : History} (k : Stands c h) where
     e .sends ∙ (λ i. onto (map orderRow (sent-alike s i)) room),
   )
 
-  module _ {asker : Itsi} {group : Gtsi} where
-    lists-alike : {room listed : Rows} {reply : Members} → Lists asker group room listed c reply
-        → (reply ≡ membersOf (list (run placing h) (asker .0) (group .0) (length room)))
-        × (listed ≡ onto (map entryRow (list (run placing h) (asker .0) (group .0) (length room) .entries)) room)
+  module _ (asker : Itsi) (asked : GroupAsked) where
+    abbrev by : Number
+    by = radioNumber asker
+
+    abbrev of : Number
+    of = askedNumber asker asked
+
+    lists-alike : {room listed : Rows} {reply : Members} → Lists asker asked room listed c reply
+        → (reply ≡ membersOf (list (run placing h) by of (length room))) × (listed ≡ onto (map entryRow (list (run placing h) by of (length room) .entries)) room)
     lists-alike {room} e =
         let s = list-says e in
-        let l = listed-alike asker group (length room) in
+        let l = listed-alike asker (askedGroup asker asked) (length room) in
         (s .0 ∙ ap membersOf l, s .1 ∙ (λ i. onto (map entryRow (l i .entries)) room))
 
-    lists-exactly : {room listed : Rows} {reply : Members} → Lists asker group room listed c reply → owner h (group .0) (asker .0) ≡ true
-        → length (radiosIn h (group .0)) ≤ length room
-        → ListsExactly h (group .0) room listed reply
-    lists-exactly {room} e o n =
-        let l = list (run placing h) (asker .0) (group .0) (length room) in
-        let x = list-exact placing by-number h (asker .0) (group .0) (length room) o n in
+    lists-exactly : {room listed : Rows} {reply : Members} → Lists asker asked room listed c reply → Owns h by of
+        → length (radiosIn h (key of)) ≤ length room → ListsExactly h of room listed reply
+    lists-exactly {room} {listed} e o n =
+        let l = list (run placing h) by of (length room) .entries in
+        let x = list-exact placing by-number h by of (length room) o n in
         let s = lists-alike e in
-        record { entries = l .entries; counts = s .0 ∙ ap (λ (r : Option Refusal). membersReply r (length (l .entries))) (x .0); rows = s .1; exact = x .1 }
+        let front : take (length l) listed ≡ map entryRow l =
+        ap (take (length l)) (s .1) ∙ ap (λ (n : ℕ). take n (onto (map entryRow l) room)) (sym (length-map l entryRow)) ∙ take-append-seam (map entryRow l) _ in
+        record {
+          entries = l;
+          counts = s .0 ∙ ap (λ (r : Option Refusal). membersReply r (length l)) (x .0);
+          rows = s .1;
+          exact = x .1;
+          says = λ n w. ap (λ (rows : Rows). stateIn rows n) front ∙ state-told n w l (exact-narrow h (key of) l (x .1)) ∙ x .1 .says (key n);
+        }
 
-    shows-alike : {reply : Shown} → Shows asker group c reply → reply ≡ shownOf (show (run placing h) (asker .0) (group .0))
-    shows-alike e = show-says e ∙ ap shownOf (shown-alike asker group)
+    shows-alike : {reply : Shown} → Shows asker asked c reply → reply ≡ shownOf (show (run placing h) by of)
+    shows-alike e = show-says e ∙ ap shownOf (shown-alike asker (askedGroup asker asked))
 
-    shows-exactly : {reply : Shown} → Shows asker group c reply → owner h (group .0) (asker .0) ≡ true → ShowsExactly h (group .0) reply
+    shows-exactly : {reply : Shown} → Shows asker asked c reply → Owns h by of → ShowsExactly h of reply
     shows-exactly e o =
-        let s = show (run placing h) (asker .0) (group .0) in
-        let x = show-exact placing by-number h (asker .0) (group .0) o in
+        let s = show (run placing h) by of in
+        let x = show-exact placing by-number h by of o in
+        let holds = shows-alike e ∙ ap (λ (r : Option Refusal). shownAs r (s .owners) (s .parameters)) (x .0) in
+        let front = ap (λ (n : ℕ). take n (onto (map radioAt (s .owners)) (replicate maxOwners nobody))) (sym (length-map (s .owners) radioAt))
+        ∙ take-append-seam (map radioAt (s .owners)) _ in
+        let narrow : (a : ℕ) → mem a (s .owners) ≡ true → wideKey a ≡ false =
+        λ a m. owner-narrow placing by-number h (key of) a (sym (x .1 .owns a) ∙ m) in
         record {
           owners = s .owners;
           parameters = s .parameters;
-          holds = shows-alike e ∙ ap (λ (r : Option Refusal). shownAs r (s .owners) (s .parameters))
-              (x .0);
+          holds = holds;
           tells = x .1;
+          says = λ n w. ap (λ (r : Shown). shownOwner r n) holds ∙ ap (any (λ (o : Itsi). sameNumber n (radioNumber o))) front
+              ∙ owner-told n w (s .owners) narrow ∙ x .1 .owns (key n);
         }
 
 -- the demand
@@ -114,10 +140,10 @@ demand {c} {h} run =
       deletes = λ e. sends-alike k (delete-says e);
       answers = λ e. replies-alike k (answer-says e);
       ticks = λ e. replies-alike k (tick-says e);
-      lists = λ {asker} {group} {room} e. let s = lists-alike k e in
-          let l = list-agree placing by-number h (asker .0) (group .0) (length room) in
+      lists = λ {asker} {asked} {room} e. let s = lists-alike k asker asked e in
+          let l = list-agree placing by-number h (radioNumber asker) (askedNumber asker asked) (length room) in
           (s .0 ∙ ap membersOf l, s .1 ∙ (λ i. onto (map entryRow (l i .entries)) room));
-      shows = λ {asker} {group} e. shows-alike k e ∙ ap shownOf (show-agree placing by-number h (asker .0) (group .0));
-      owner-lists = λ e. lists-exactly k e;
-      owner-shows = λ e. shows-exactly k e;
+      shows = λ {asker} {asked} e. shows-alike k asker asked e ∙ ap shownOf (show-agree placing by-number h (radioNumber asker) (askedNumber asker asked));
+      owner-lists = λ {asker} {asked} e. lists-exactly k asker asked e;
+      owner-shows = λ {asker} {asked} e. shows-exactly k asker asked e;
     }

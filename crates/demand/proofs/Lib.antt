@@ -2,8 +2,10 @@
 pub mod Back
 pub mod Calls
 pub mod Runs
+pub mod Parts
 pub mod Demand
 pub mod Never18
 pub mod Anew
+pub mod Visitor
 pub mod Asked
 pub mod Before

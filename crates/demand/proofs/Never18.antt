@@ -11,11 +11,13 @@ use Rattle.refusal.specs.Number.{numberOf}
 use Rattle.refusal.specs.declared.Refusal.{Refusal}
 use Rattle.refusal.specs.declared.Refusal.the-variants.{NotWritten}
 use Rattle.rules.specs.Lists.{any}
+use Rattle.rules.specs.Number.{Number, key}
 use Rattle.rules.specs.Order.{Step, define, delete, answer, tick}
 use Rattle.rules.specs.World.{World, Tally}
 use Rattle.rules.specs.Refusals.{first, tests, refusal, showRefusal, askTests, listRefusal, listTests}
 use Rattle.rules.specs.Effect.{effect}
 use Rattle.rules.specs.History.{History, _then_, world, namedIn, tallyIn, radiosIn, refusalIn, sentIn, listIn, showIn}
+use Rattle.order.specs.Numbers.{radioNumber, askedNumber}
 use Rattle.order.specs.Steps.{answerStep, defineStep, deleteStep}
 use Rattle.store.specs.Storage.{Contents}
 use Rattle.store.specs.Form.{roomy}
@@ -53,10 +55,10 @@ step-not18 w t (delete o room) = first-not18 (tests w t (delete o room)) refl
 step-not18 w t (answer a) = first-not18 (tests w t (answer a)) refl
 step-not18 w t tick = first-not18 (tests w t tick) refl
 
-list-not18 : (w : World) (asker g : ℕ) (radios : List ℕ) (room : ℕ) → listRefusal w asker g radios room ≡ some NotWritten → ⊥
+list-not18 : (w : World) (asker g : Number) (radios : List ℕ) (room : ℕ) → listRefusal w asker g radios room ≡ some NotWritten → ⊥
 list-not18 w asker g radios room = first-not18 (listTests w asker g radios room) refl
 
-show-not18 : (w : World) (asker g : ℕ) → showRefusal w asker g ≡ some NotWritten → ⊥
+show-not18 : (w : World) (asker g : Number) → showRefusal w asker g ≡ some NotWritten → ⊥
 show-not18 w asker g = first-not18 (askTests w asker g) refl
 
 -- ---- over a run ----
@@ -86,10 +88,10 @@ never18 {c} {h} k =
       answers = λ {radio} {group} {result} e. let s = answerStep radio group result in
           in-history h s (reply-some (refusalIn h s) NotWritten (f .answers e));
       ticks = λ e. in-history h tick (reply-some (refusalIn h tick) NotWritten (f .ticks e));
-      lists = λ {asker} {group} {room} e. let l = listIn h (asker .0) (group .0) (length room) in
-          list-not18 (world h) (asker .0) (group .0) (radiosIn h (group .0)) (length room)
+      lists = λ {asker} {asked} {room} e. let g = askedNumber asker asked in let l = listIn h (radioNumber asker) g (length room) in
+          list-not18 (world h) (radioNumber asker) g (radiosIn h (key g)) (length room)
           (members-some (l .refused) (length (l .entries)) NotWritten (f .lists e .0));
-      shows = λ {asker} {group} e q. let o = showIn h (asker .0) (group .0) .refused in
-          show-not18 (world h) (asker .0) (group .0) (reply-some o NotWritten (sym q ∙ ap (λ (x : Shown). x .reply) (f .shows e)));
+      shows = λ {asker} {asked} e q. let g = askedNumber asker asked in let o = showIn h (radioNumber asker) g .refused in
+          show-not18 (world h) (radioNumber asker) g (reply-some o NotWritten (sym q ∙ ap (λ (x : Shown). x .reply) (f .shows e)));
       empties = λ e. roomy-begins c (form-parts c (f .written) .0) (reply-some (emptyVerdict c) NotWritten (empty-says e .replies));
     }

@@ -13,10 +13,12 @@ use Rattle.rules.specs.Stretches.{InStretches}
 use Rattle.rules.specs.Steps.{refused, sent}
 use Rattle.rules.specs.History.{History}
 use Rattle.rules.specs.Run.{run}
+use Rattle.order.specs.Numbers.{radioNumber, askedNumber}
 use Rattle.order.specs.Steps.{answerStep, defineStep, deleteStep}
 use Rattle.order.specs.Walks.{onto}
 use Rattle.order.specs.declared.Gtsi.{Gtsi}
 use Rattle.order.specs.declared.Itsi.{Itsi}
+use Rattle.order.specs.declared.GroupAsked.{GroupAsked}
 use Rattle.order.specs.declared.Numbers.{Numbers}
 use Rattle.order.specs.declared.Listed.{Listed}
 use Rattle.store.specs.Storage.{Rows, Contents, ledgerOf}
@@ -53,8 +55,9 @@ pub record AsBefore (c : Contents) (h : History) : Type 0 where
   pub answers : {radio : Itsi} {group : Gtsi} {result : ℕ} {c′ : Contents} {reply : Reply}
       → Answers radio group result c c′ reply → reply ≡ replyOf (refused byArrival (old h) (answerStep radio group result))
   pub ticks : {c′ : Contents} {reply : Reply} → Ticks c c′ reply → reply ≡ replyOf (refused byArrival (old h) tick)
-  pub lists : {asker : Itsi} {group : Gtsi} {room listed : Rows} {reply : Members}
-      → Lists asker group room listed c reply
-      → let l = list (old h) (asker .0) (group .0) (length room) in
+  pub lists : {asker : Itsi} {asked : GroupAsked} {room listed : Rows} {reply : Members}
+      → Lists asker asked room listed c reply
+      → let l = list (old h) (radioNumber asker) (askedNumber asker asked) (length room) in
       (reply ≡ membersOf l) × (listed ≡ onto (map entryRow (l .entries)) room)
-  pub shows : {asker : Itsi} {group : Gtsi} {reply : Shown} → Shows asker group c reply → reply ≡ shownOf (show (old h) (asker .0) (group .0))
+  pub shows : {asker : Itsi} {asked : GroupAsked} {reply : Shown}
+      → Shows asker asked c reply → reply ≡ shownOf (show (old h) (radioNumber asker) (askedNumber asker asked))

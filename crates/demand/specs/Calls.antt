@@ -14,6 +14,7 @@ use Rattle.layout.specs.declared.Record.{Record}
 use Rattle.store.specs.Storage.{Rows, Contents, contents}
 use Rattle.order.specs.declared.Gtsi.{Gtsi}
 use Rattle.order.specs.declared.Itsi.{Itsi}
+use Rattle.order.specs.declared.GroupAsked.{GroupAsked}
 use Rattle.order.specs.declared.Numbers.{Numbers}
 use Rattle.order.specs.declared.Listed.{Listed}
 use Rattle.replies.specs.declared.Reply.{Reply}
@@ -95,19 +96,19 @@ pub record Deletes (asker : Itsi) (named : Numbers) (remove deassign : Bool) (ra
 
 -- ---- the questions, on contents that they do not change; listed: the rows of the room after the call ----
 
-pub record Lists (asker : Itsi) (group : Gtsi) (room listed : Rows) (on : Contents) (reply : Members) : Type 0 where
+pub record Lists (asker : Itsi) (asked : GroupAsked) (room listed : Rows) (on : Contents) (reply : Members) : Type 0 where
   pub lifetimes : Lfts 4
   pub lent : Storage
   pub out : RefT Rows
   pub left : AtExit (endedOf 4 list-kinds.ps list-kinds.r) lifetimes
   pub stands : held lent ≡ on
   pub roomed : now out ≡ room
-  pub meets : list.Post lifetimes (lent .head, (lent .groups, (lent .pairs, (asker, (group, (out, tt)))))) reply left
+  pub meets : list.Post lifetimes (lent .head, (lent .groups, (lent .pairs, (asker, (asked, (out, tt)))))) reply left
   pub lists : now (left .1 .1 .1 .1 .1 .0) ≡ listed
 
-pub record Shows (asker : Itsi) (group : Gtsi) (on : Contents) (reply : Shown) : Type 0 where
+pub record Shows (asker : Itsi) (asked : GroupAsked) (on : Contents) (reply : Shown) : Type 0 where
   pub lifetimes : Lfts 3
   pub lent : Storage
   pub left : AtExit (endedOf 3 show-kinds.ps show-kinds.r) lifetimes
   pub stands : held lent ≡ on
-  pub meets : show.Post lifetimes (lent .head, (lent .groups, (lent .pairs, (asker, (group, tt))))) reply left
+  pub meets : show.Post lifetimes (lent .head, (lent .groups, (lent .pairs, (asker, (asked, tt))))) reply left

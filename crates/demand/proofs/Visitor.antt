@@ -1,0 +1,26 @@
+-- Two radios with one SSI and two extensions, over the calls: what is ordered of the one leaves the other's pair in the lent contents as it was.
+use mathlib.Core.Path.{_≡_, sym, ap, _∙_}
+use Prim.Native.Nat.{ℕ}
+use Rattle.rules.specs.Number.{Number, key}
+use Rattle.rules.specs.Order.{Step}
+use Rattle.rules.specs.World.{World}
+use Rattle.rules.specs.Ledger.{view}
+use Rattle.rules.specs.History.{History, _then_, mark}
+use Rattle.rules.specs.Visitor.{Visitor, About}
+use Rattle.rules.proofs.ByNumber.{by-number}
+use Rattle.rules.proofs.Agree.{run-agree}
+use Rattle.rules.proofs.Visitor.{kept-apart}
+use Rattle.store.specs.Storage.{Contents, placing, ledgerOf}
+use Rattle.demand.specs.Runs.{Kept}
+use Rattle.demand.proofs.Runs.{run-stands}
+
+-- the contents' pairs are the history's
+marked : {c : Contents} {h : History} → Kept c h → (g r : ℕ) → view (ledgerOf c) .mark g r ≡ mark h g r
+marked {h = h} k g r = ap (λ (w : World). w .mark g r) (ap view (run-stands k .says) ∙ run-agree placing by-number h)
+
+-- c was left by a run, and c′ by the same run and one call more, which is about `theirs`
+pub visitor-apart : {c c′ : Contents} {h : History} {s : Step} → Kept c h → Kept c′ (h then s)
+    → {ours theirs : Number} → Visitor ours theirs → About theirs s
+    → (g : ℕ) → view (ledgerOf c′) .mark g (key ours) ≡ view (ledgerOf c) .mark g (key ours)
+visitor-apart {h = h} {s = s} k k′ {ours} {theirs} v a g =
+    marked k′ g (key ours) ∙ kept-apart ours theirs v .leaves h s a g ∙ sym (marked k g (key ours))
