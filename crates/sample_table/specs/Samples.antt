@@ -1,4 +1,5 @@
--- The samples that are proved, in one table, and what it is that each of them passes: document 01's starred ones, and two of each frame of P1.
+-- The samples that are proved, in one table, and what it is that each of them passes: document 01's starred ones, two of each frame of P1,
+-- and two radios with one SSI (P3).
 -- Assumes nothing.
 use Prim.Native.Nat.{ℕ, zero, suc, _-_}
 use mathlib.Core.Bool.{Bool, true, false, _&&_}
@@ -15,6 +16,7 @@ use Rattle.layout.specs.declared.Written.{Written}
 use Rattle.layout.specs.declared.Written.the-variants as written
 use Rattle.layout.specs.Shape.{Yes, No}
 use Rattle.layout.specs.Frame.{places, readingOf, writtenOf, outputOf}
+use Rattle.rules.specs.Number.{key, plain}
 use Rattle.rules.specs.Order.{Step, define, delete, answer, tick}
 use Rattle.rules.specs.Recorded.{setReference, assignment, numbersAt, defineOf}
 use Rattle.rules.specs.Refusals.{replyNumber}
@@ -30,7 +32,8 @@ use Rattle.rules.specs.Run.{run}
 pub data Sample : Type 0 where
   taken : Kind → ℕ → List ℕ → List ℕ → Sample  -- so many bits in these bytes are this record, which goes on with 0; and it is written so
   refused : Kind → ℕ → List ℕ → ℕ → ℕ → Sample  -- so many bits in these bytes are refused with this number, at this bit
-  ordered : History → Step → ℕ → List Entry → Sample  -- after this history the step gets this number (0: accepted), and asker 1's list of group 5 is then this
+  -- after this history the step gets this number (0: accepted), and the list of group 5 by asker 1, both of this extension, is then this
+  ordered : ℕ → History → Step → ℕ → List Entry → Sample
 
 -- ---- records and orders that the table names
 -- an identity takes four places: its form, SNA, SSI and extension
@@ -54,29 +57,54 @@ one identity = listed 0 identity
 abbrev group : ℕ → List ℕ
 group g = No ∷ 0 ∷ Yes ∷ 0 ∷ one (ssi g)
 
--- the rest of it, from the O-bit on: assign this radio, acknowledgement requested
-abbrev assign : ℕ → List ℕ
-assign r = 1 ∷ replicate (assignment - setReference) 0 ++ (1 ∷ Yes ∷ one (ssi r)) ++ (1 ∷ Yes ∷ [])
+-- the rest of it, from the O-bit on: assign these radios, acknowledgement requested
+abbrev assign : List ℕ → List ℕ
+assign radios = 1 ∷ replicate (assignment - setReference) 0 ++ (1 ∷ Yes ∷ radios) ++ (1 ∷ Yes ∷ [])
 
--- asker 1 defines group 5 and assigns radio 9, with room for one outgoing order
-abbrev assigns : Step
-assigns = define (defineOf 1 (group 5 ++ assign 9)) 1
+-- asker 1 of extension x defines group 5 and assigns radios, with room for so many outgoing orders
+abbrev assignsAll : ℕ → List ℕ → ℕ → Step
+assignsAll x radios room = define (defineOf (plain x 1) (group 5 ++ assign radios)) room
 
--- asker 1 defines group 5 and assigns none
-abbrev defines : Step
-defines = define (defineOf 1 (group 5)) 0
+-- he assigns radio 9
+abbrev assigns : ℕ → Step
+assigns x = assignsAll x (one (ssi 9)) 1
 
--- asker 1 deletes group 5, deassign no
-abbrev deletes : Step
-deletes = delete (record { asker = 1; groups = numbersAt (one (ssi 5)) 0; delete = true; deassign = false; radios = none }) 0
+-- he defines group 5 and assigns none
+abbrev defines : ℕ → Step
+defines x = define (defineOf (plain x 1) (group 5)) 0
 
--- radio 9 answers for group 5 with result 1
-abbrev confirms : Step
-confirms = answer (record { radio = 9; group = 5; result = 1 })
+-- he deletes group 5, deassign no
+abbrev deletes : ℕ → Step
+deletes x = delete (record { asker = plain x 1; groups = numbersAt (one (ssi 5)) 0; delete = true; deassign = false; radios = none }) 0
+
+-- radio 9 of extension y answers for group 5 of extension x with result 1
+abbrev confirms : ℕ → ℕ → Step
+confirms x y = answer (record { radio = plain y 9; group = plain x 5; result = 1 })
+
+-- a radio in a list, with its state
+abbrev listedAs : ℕ → ℕ → ℕ → Entry
+listedAs x r state = (key (plain x r), state)
 
 abbrev ticks : ℕ → History → History
 ticks zero h = h
 ticks (suc n) h = ticks n h then tick
+
+-- ---- document 01's orders, with one extension x everywhere, before other samples
+abbrev orders : ℕ → List Sample → List Sample
+orders x others =
+    -- answer after 29 ticks and after 30: both accepted
+    ordered x (ticks 29 (start then assigns x)) (confirms x x) 0 (listedAs x 9 2 ∷ [])
+    ∷ ordered x (ticks 30 (start then assigns x)) (confirms x x) 0 (listedAs x 9 2 ∷ [])
+    -- between them, at its 30th tick, the waiting radio becomes unheard
+    ∷ ordered x (ticks 28 (start then assigns x)) tick 0 (listedAs x 9 1 ∷ [])
+    ∷ ordered x (ticks 29 (start then assigns x)) tick 0 (listedAs x 9 3 ∷ [])
+    -- a second result 1: at once, and after 30 ticks
+    ∷ ordered x (start then assigns x then confirms x x) (confirms x x) 14 (listedAs x 9 2 ∷ [])
+    ∷ ordered x (ticks 30 (start then assigns x) then confirms x x) (confirms x x) 14 (listedAs x 9 2 ∷ [])
+    -- group 5 with radio 9 in it; deleted, deassign no, and defined again, assigning none: empty list
+    ∷ ordered x start (assigns x) 0 (listedAs x 9 1 ∷ [])
+    ∷ ordered x (start then assigns x then deletes x) (defines x) 0 []
+    ∷ others
 
 -- ---- the table
 abbrev pub samples : List Sample
@@ -134,19 +162,16 @@ samples =
     ∷ refused Assign 34 (0x50 ∷ 0x40 ∷ 0x07 ∷ 0x80 ∷ 0x00 ∷ []) 6 33
     ∷ refused Assign 34 (0x50 ∷ 0x40 ∷ 0x07 ∷ 0x80 ∷ 0x40 ∷ []) 7 33
     ∷ refused CancelAck 30 (0x51 ∷ 0xA0 ∷ 0x38 ∷ 0x00 ∷ []) 2 22
-    -- answer after 29 ticks and after 30: both accepted
-    ∷ ordered (ticks 29 (start then assigns)) confirms 0 ((9, 2) ∷ [])
-    ∷ ordered (ticks 30 (start then assigns)) confirms 0 ((9, 2) ∷ [])
-    -- between them, at its 30th tick, the waiting radio becomes unheard
-    ∷ ordered (ticks 28 (start then assigns)) tick 0 ((9, 1) ∷ [])
-    ∷ ordered (ticks 29 (start then assigns)) tick 0 ((9, 3) ∷ [])
-    -- a second result 1: at once, and after 30 ticks
-    ∷ ordered (start then assigns then confirms) confirms 14 ((9, 2) ∷ [])
-    ∷ ordered (ticks 30 (start then assigns) then confirms) confirms 14 ((9, 2) ∷ [])
-    -- group 5 with radio 9 in it; deleted, deassign no, and defined again, assigning none: empty list
-    ∷ ordered start assigns 0 ((9, 1) ∷ [])
-    ∷ ordered (start then assigns then deletes) defines 0 []
-    ∷ []
+    -- document 01's orders, where all extensions are equal: 0, another, and the largest
+    ∷ orders 0 (orders 5 (orders 0xFFFFFF
+    -- a neighbour's radio 9 is not ours: its answer is for no pair, and the list holds ours alone; assigned too, it is a second pair
+    (ordered 5 (start then assigns 5) (confirms 5 6) 14 (listedAs 5 9 1 ∷ [])
+    ∷ ordered 5 (start then assigns 5) (assignsAll 5 (one (extended 9 6)) 1) 0 (listedAs 5 9 1 ∷ listedAs 6 9 1 ∷ [])
+    ∷ ordered 5 (start then assignsAll 5 (listed 2 (extended 9 6 ++ ssi 9)) 2) (confirms 5 6) 0 (listedAs 5 9 1 ∷ listedAs 6 9 2 ∷ [])
+    -- lists rise by extension, then SSI; an SSI with the asker's own extension is the plain one
+    ∷ ordered 5 start (assignsAll 5 (listed 3 (extended 3 6 ++ ssi 9 ++ extended 4 5)) 3) 0 (listedAs 5 4 1 ∷ listedAs 5 9 1 ∷ listedAs 6 3 1 ∷ [])
+    ∷ ordered 5 start (assignsAll 5 (listed 2 (extended 9 5 ++ ssi 9)) 1) 0 (listedAs 5 9 1 ∷ [])
+    ∷ [])))
 
 -- ---- what they pass
 abbrev same : List ℕ → List ℕ → Bool
@@ -181,9 +206,10 @@ sameEntries (x ∷ xs) (y ∷ ys) = eqb (x .0) (y .0) && eqb (x .1) (y .1) && sa
 abbrev lists : List Entry → Listing → Bool
 lists entries reply = eqb (replyNumber (reply .refused)) 0 && sameEntries (reply .entries) entries
 
-abbrev onLedger : Placing → History → Step → ℕ → List Entry → Bool
-onLedger placing before next n entries =
-    eqb (replyNumber (steps.refused placing (run placing before) next)) n && lists entries (list (run placing (before then next)) 1 5 1)
+abbrev onLedger : Placing → ℕ → History → Step → ℕ → List Entry → Bool
+onLedger placing x before next n entries =
+    eqb (replyNumber (steps.refused placing (run placing before) next)) n
+    && lists entries (list (run placing (before then next)) (plain x 1) (plain x 5) (length entries))
 
 -- the reader's answer, and the writer's into that many zero bytes
 unfoldable pub passes : Sample → Bool
@@ -198,8 +224,8 @@ passes (refused kind count bytes n bit) =
     let reading = readingOf kind bytes count in
     refusesWith n bit (reading .verdict) && same (reading .values .place) (filled [])
 -- by what the history means, and on the abstract ledger after it, by arrival as by number
-passes (ordered before next n entries) =
+passes (ordered x before next n entries) =
     eqb (replyNumber (refusalIn before next)) n
-    && lists entries (listIn (before then next) 1 5 1)
-    && onLedger byArrival before next n entries
-    && onLedger byNumber before next n entries
+    && lists entries (listIn (before then next) (plain x 1) (plain x 5) (length entries))
+    && onLedger byArrival x before next n entries
+    && onLedger byNumber x before next n entries
