@@ -9,6 +9,7 @@ use frame::Verdict;
 use house::Line;
 use ledger::ENTRY_WORDS;
 use ledger::GROUP_WORDS;
+use ledger::GroupAsked;
 use ledger::Gtsi;
 use ledger::HEAD_WORDS;
 use ledger::Itsi;
@@ -30,6 +31,7 @@ use text::put_shown;
 use text::refuse;
 use words::choice;
 use words::digits;
+use words::group;
 use words::mark;
 use words::number;
 use words::room;
@@ -44,7 +46,7 @@ ghost use Rattle.text.specs.Put.{longest};
 const FRAME_BYTES: usize = 213;
 
 // The bytes of the longest reply and its newline.
-pub const REPLY: usize = 32770;
+pub const REPLY: usize = 61442;
 
 // What a DEFINE's heading says: the bit count; or the text is no DEFINE.
 enum Heading {
@@ -69,14 +71,14 @@ enum Outcome {
 // What a D says: asker, room and record.
 struct Definition {
     content: Content,
-    asker: u64,
+    asker: Itsi,
     size: u64,
     values: Record,
 }
 
 // What an X says: asker, room, groups, delete, deassign, radios; and the place behind them.
 struct Deletion {
-    asker: u64,
+    asker: Itsi,
     size: u64,
     named: Numbers,
     remove: bool,
@@ -85,10 +87,10 @@ struct Deletion {
     next: usize,
 }
 
-// Two numbers that a line begins with, a radio or asker and a group, and the place behind them.
-struct Two {
-    first: u64,
-    group: u64,
+// What an L or an S asks: asker and group; and the place behind them.
+struct Question {
+    asker: Itsi,
+    group: GroupAsked,
     next: usize,
 }
 
@@ -99,14 +101,15 @@ fn places(size: u64, lent: usize) -> usize
     lesser(size as usize, lent)
 }
 
-// The two numbers behind a line's letter.
-fn read_two(line: &[u8]) -> Two {
-    let first = number(line, 1);
-    let group = number(line, first.next);
-    Two {
-        first: first.value,
-        group: group.value,
-        next: group.next,
+// The asker and the group behind a line's letter.
+fn read_question(line: &[u8]) -> Question {
+    let asker = number(line, 1);
+    let taken = group(line, asker.next);
+    let asked = taken.group;
+    Question {
+        asker: Itsi(asker.ssi, asker.extension),
+        group: asked,
+        next: taken.next,
     }
 }
 
@@ -160,7 +163,7 @@ fn no_define() -> Definition {
     let values = frame::blank();
     Definition {
         content: Content::Bad,
-        asker: 0,
+        asker: Itsi(0, 0),
         size: 0,
         values,
     }
@@ -191,7 +194,7 @@ fn read_definition(line: &[u8]) -> Definition {
     let values = reading.values;
     Definition {
         content: content_of(verdict),
-        asker: asker.value,
+        asker: Itsi(asker.ssi, asker.extension),
         size: size.value,
         values,
     }
@@ -219,15 +222,9 @@ fn define(
         return stopped(content);
     };
     let values = order.values;
+    let asker = order.asker;
     let count = places(order.size, rows.len());
-    Outcome::Sends(ledger::define(
-        head,
-        groups,
-        pairs,
-        Itsi(order.asker),
-        values,
-        &mut rows[..count],
-    ))
+    Outcome::Sends(ledger::define(head, groups, pairs, asker, values, &mut rows[..count]))
 }
 
 // X: asker, room, groups, delete, deassign, radios or none.
@@ -242,7 +239,7 @@ fn read_deletion(line: &[u8]) -> Deletion {
     let numbers = groups.numbers;
     let listed = radios.list;
     Deletion {
-        asker: asker.value,
+        asker: Itsi(asker.ssi, asker.extension),
         size: size.value,
         named: numbers,
         remove: remove.value == 1,
@@ -265,13 +262,14 @@ fn delete(
         return Outcome::Replied(bad_line());
     }
     let count = places(order.size, rows.len());
+    let asker = order.asker;
     let named = order.named;
     let radios = order.radios;
     Outcome::Sends(ledger::delete(
         head,
         groups,
         pairs,
-        Itsi(order.asker),
+        asker,
         named,
         order.remove,
         order.deassign,
@@ -287,19 +285,15 @@ fn answer(
     groups: &[[u64; GROUP_WORDS]; MAX_GROUPS],
     pairs: &mut [[u64; PAIR_WORDS]; MAX_PAIRS],
 ) -> Reply {
-    let two = read_two(line);
-    let result = word(line, two.next, 2);
+    let radio = number(line, 1);
+    let group = number(line, radio.next);
+    let result = word(line, group.next, 2);
     if result.next != line.len() {
         return bad_line();
     }
-    ledger::answer(
-        head,
-        groups,
-        pairs,
-        Itsi(two.first),
-        Gtsi(two.group),
-        result.value,
-    )
+    let from = Itsi(radio.ssi, radio.extension);
+    let of = Gtsi(group.ssi, group.extension);
+    ledger::answer(head, groups, pairs, from, of, result.value)
 }
 
 // T: so many ticks; a refusal ends them.
@@ -332,20 +326,15 @@ fn list(
     pairs: &[[u64; PAIR_WORDS]; MAX_PAIRS],
     rows: &mut [[u64; ENTRY_WORDS]],
 ) -> Members {
-    let two = read_two(line);
-    let size = room(line, two.next);
+    let question = read_question(line);
+    let asker = question.asker;
+    let group = question.group;
+    let size = room(line, question.next);
     if size.next != line.len() {
         return Members::Refused(Refusal::BadLine);
     }
     let count = places(size.value, rows.len());
-    ledger::list(
-        head,
-        groups,
-        pairs,
-        Itsi(two.first),
-        Gtsi(two.group),
-        &mut rows[..count],
-    )
+    ledger::list(head, groups, pairs, asker, group, &mut rows[..count])
 }
 
 // S: asker, group.
@@ -358,11 +347,13 @@ fn show(
 ) -> usize
     ensures { λ r. ⌜ r ≤ longest ⌝ }
 {
-    let two = read_two(line);
-    if two.next != line.len() {
+    let question = read_question(line);
+    let asker = question.asker;
+    let group = question.group;
+    if question.next != line.len() {
         return refuse(Refusal::BadLine, out);
     }
-    let shown = ledger::show(head, groups, pairs, Itsi(two.first), Gtsi(two.group));
+    let shown = ledger::show(head, groups, pairs, asker, group);
     put_shown(shown, out)
 }
 

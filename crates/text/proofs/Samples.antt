@@ -7,6 +7,7 @@ use Rattle.replies.specs.declared.Reply.the-variants.{Done, Refused}
 use Rattle.replies.specs.declared.Sent.the-variants.{Orders}
 use Rattle.replies.specs.declared.Members.the-variants.{Radios}
 use Rattle.replies.specs.declared.Shown.{Shown}
+use Rattle.replies.specs.Showing.{nobody}
 use Rattle.text.specs.Digits.{quoted, digit}
 use Rattle.text.specs.Text.{replyText, sentText, listedText, shownText}
 
@@ -18,11 +19,11 @@ pub refused-17 : replyText (Refused NoRoom) ≡ quoted "R17"
 unfolding digit
 refused-17 = refl
 
-pub sent-one : sentText (Orders 1) ((0 ∷ 9 ∷ 5 ∷ []) ∷ (1 ∷ 9 ∷ 5 ∷ []) ∷ []) ≡ quoted "A a:000009:000005"
+pub sent-one : sentText (Orders 1) ((0 ∷ 9 ∷ 3 ∷ 5 ∷ 4 ∷ []) ∷ (1 ∷ 9 ∷ 3 ∷ 5 ∷ 4 ∷ []) ∷ []) ≡ quoted "A a:000009/000003:000005/000004"
 unfolding digit
 sent-one = refl
 
-pub listed-one : listedText (Radios 1) ((9 ∷ 2 ∷ []) ∷ []) ≡ quoted "A 000009=2"
+pub listed-one : listedText (Radios 1) ((9 ∷ 3 ∷ 2 ∷ []) ∷ []) ≡ quoted "A 000009/000003=2"
 unfolding digit
 listed-one = refl
 
@@ -30,7 +31,7 @@ pub yard : Shown
 yard = record {
   reply = Done;
   count = 3;
-  owners = 1 ∷ 2 ∷ 3 ∷ replicate 8 0;
+  owners = (1, 4) ∷ (2, 5) ∷ (3, 6) ∷ replicate 8 nobody;
   reference = 8;
   acknowledged = 1;
   broadcast = 2;
@@ -42,6 +43,6 @@ yard = record {
 }
 
 pub yard-shown : shownText yard
-    ≡ quoted "A owners=000001,000002,000003 set=7 call=0 broadcast=1 name=596172642035 class=6 lifetime=3 temporary=5"
+    ≡ quoted "A owners=000001/000004,000002/000005,000003/000006 set=7 call=0 broadcast=1 name=596172642035 class=6 lifetime=3 temporary=5"
 unfolding digit yard
 yard-shown = refl

@@ -7,8 +7,10 @@ use native.Mathlib.Omega.{arith}
 use lib.ListN.{length, getD, take, drop, length-take}
 use lib.Seq.{take-nil, take-take}
 use borrow.Author.Tests.{lt-ltb, le-ltb}
-use Rattle.text.specs.Digits.{digit, digitsText, decimalText}
-use Rattle.text.specs.Text.{joined, heldLetter, nextOwner, ownersText, letterText, nameText}
+use Rattle.order.specs.declared.Itsi.{Itsi}
+use Rattle.replies.specs.Showing.{nobody}
+use Rattle.text.specs.Digits.{digit, decimalText}
+use Rattle.text.specs.Text.{joined, heldLetter, numberText, nextOwner, ownersText, letterText, nameText}
 
 pub value-held : (held : ℕ) → 0 < held → heldLetter held ≡ digit ((held - 1) % 16)
 value-held zero h = absurd (omega arith)
@@ -16,8 +18,9 @@ value-held (suc held) h =
     let less : held ≡ suc held - 1 = omega arith in
     ap (λ n. digit (n % 16)) less
 
-pub some-owners : (owners : List ℕ) (count : ℕ) → 0 < count → count ≤ length owners
-    → ownersText (take count owners) ≡ digitsText (getD owners 0 0) 6 ++ joined nextOwner (drop 1 (take count owners))
+pub some-owners : (owners : List Itsi) (count : ℕ) → 0 < count → count ≤ length owners
+    → ownersText (take count owners)
+    ≡ numberText (getD owners 0 nobody .0) (getD owners 0 nobody .1) ++ joined nextOwner (drop 1 (take count owners))
 some-owners owners zero h fits = absurd (omega arith)
 some-owners [] (suc count) h fits = absurd (omega arith)
 some-owners (owner ∷ owners) (suc count) h fits = refl

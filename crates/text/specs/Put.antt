@@ -12,9 +12,9 @@ pub record Put (text before after : List ℕ) (at next : ℕ) : Type 0 where
   pub ends : next ≡ at + length text
   pub stored : after ≡ sets before at text
 
--- the bytes of the longest reply: A, and 2,048 orders of 16 bytes
+-- the bytes of the longest reply: A, and 2,048 orders of 30 bytes
 abbrev pub longest : ℕ
-longest = 32769
+longest = 61441
 
 -- a text laid onto the front of a buffer: what lies past it stays
 abbrev pub onto : List ℕ → List ℕ → List ℕ

@@ -1,11 +1,12 @@
 -- What desk's replies say, character by character: R and the refusal's number, or A and what was asked for.
 use mathlib.Core.Bool.{cond}
 use mathlib.Core.List.{List, [], _∷_, _++_}
-use Prim.Native.Nat.{ℕ, zero, suc, _%_}
+use Prim.Native.Nat.{ℕ, zero, suc, _+_, _%_}
 use Prim.Native.Char.{code}
 use Prim.Native.String.{String}
 use lib.Dec.{eqb}
 use lib.ListN.{getD, take}
+use Rattle.order.specs.declared.Itsi.{Itsi}
 use Rattle.refusal.specs.Number.{numberOf}
 use Rattle.refusal.specs.declared.Refusal.{Refusal}
 use Rattle.replies.specs.declared.Reply.{Reply}
@@ -15,6 +16,7 @@ use Rattle.replies.specs.declared.Sent.the-variants.{Orders, Refused as NotSent
 use Rattle.replies.specs.declared.Members.{Members}
 use Rattle.replies.specs.declared.Members.the-variants.{Radios, Refused as NotListed}
 use Rattle.replies.specs.declared.Shown.{Shown}
+use Rattle.rows.specs.Layout.{orderKind, orderRadio, orderGroup, entryRadio, entryState}
 use Rattle.rules.specs.Outgoing.{assign}
 use Rattle.text.specs.Digits.{quoted, digit, digitsText, decimalText}
 
@@ -47,18 +49,31 @@ kindLetter kind = cond (eqb kind assign) (code "a") (code "d")
 abbrev pub kindText : ℕ → List ℕ
 kindText kind = quoted " " ++ (kindLetter kind ∷ [])
 
--- a row of kind, radio and group: " a:000009:000005"
+-- a number of SSI and extension: "000009/000000"
+abbrev pub numberText : ℕ → ℕ → List ℕ
+numberText ssi extension = digitsText ssi 6 ++ quoted "/" ++ digitsText extension 6
+
+-- a row of kind, radio and group: " a:000009/000000:000005/000000"
 abbrev pub orderText : List ℕ → List ℕ
-orderText row = kindText (getD row 0 0) ++ quoted ":" ++ digitsText (getD row 1 0) 6 ++ quoted ":" ++ digitsText (getD row 2 0) 6
+orderText row =
+    kindText (getD row orderKind 0)
+    ++ quoted ":"
+    ++ numberText (getD row orderRadio 0) (getD row (orderRadio + 1) 0)
+    ++ quoted ":"
+    ++ numberText (getD row orderGroup 0) (getD row (orderGroup + 1) 0)
 
 -- the orders are the first rows
 abbrev pub sentText : Sent → List (List ℕ) → List ℕ
 sentText (Orders count) rows = rowsText orderText (take count (take most rows))
 sentText (NotSent refusal) rows = refusalText refusal
 
--- a row of radio and state: " 000009=1"
+-- a row of radio and state: " 000009/000000=1"
 abbrev pub memberText : List ℕ → List ℕ
-memberText row = quoted " " ++ digitsText (getD row 0 0) 6 ++ quoted "=" ++ digitsText (getD row 1 0) 1
+memberText row =
+    quoted " "
+    ++ numberText (getD row entryRadio 0) (getD row (entryRadio + 1) 0)
+    ++ quoted "="
+    ++ digitsText (getD row entryState 0) 1
 
 -- the radios are the first rows
 abbrev pub listedText : Members → List (List ℕ) → List ℕ
@@ -84,14 +99,14 @@ abbrev pub lateText : ℕ → ℕ → ℕ → List ℕ
 lateText class lifetime temporary =
     valueText " class=" class ++ valueText " lifetime=" lifetime ++ valueText " temporary=" temporary
 
--- an owner behind another: ",000002"
-abbrev pub nextOwner : ℕ → List ℕ
-nextOwner owner = quoted "," ++ digitsText owner 6
+-- an owner behind another: ",000002/000000"
+abbrev pub nextOwner : Itsi → List ℕ
+nextOwner owner = quoted "," ++ numberText (owner .0) (owner .1)
 
 -- the owners, parted by commas
-abbrev pub ownersText : List ℕ → List ℕ
+abbrev pub ownersText : List Itsi → List ℕ
 ownersText [] = []
-ownersText (owner ∷ more) = digitsText owner 6 ++ joined nextOwner more
+ownersText (owner ∷ more) = numberText (owner .0) (owner .1) ++ joined nextOwner more
 
 -- a letter in two digits
 abbrev pub letterText : ℕ → List ℕ

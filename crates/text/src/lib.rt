@@ -23,8 +23,8 @@ ghost use lib.ListN.{length};
 ghost use Rattle.text.specs.Text.{most, refusalText, replyText, sentText, listedText, shownText};
 ghost use Rattle.text.specs.Put.{Put, Replied, longest};
 
-// The longest reply: A, and as many orders of 16 bytes.
-const LONGEST: usize = 32769;
+// The longest reply: A, and 2,048 orders of 30 bytes.
+const LONGEST: usize = 61441;
 
 // The smaller of two numbers.
 fn least(a: usize, b: usize) -> usize

@@ -2,7 +2,12 @@
 use crate::pieces::put_byte;
 use crate::pieces::put_digits;
 use crate::pieces::put_number;
+use rows::ENTRY_RADIO;
+use rows::ENTRY_STATE;
 use rows::ENTRY_WORDS;
+use rows::ORDER_GROUP;
+use rows::ORDER_KIND;
+use rows::ORDER_RADIO;
 use rows::ORDER_WORDS;
 ghost use mathlib.Core.Path.{_≡_};
 ghost use Prim.Native.Nat.{_+_, _≤_};
@@ -29,12 +34,12 @@ fn put_kind(kind: u64, out: &mut [u8], at: usize) -> usize
 
 // An order: its kind, radio and group.
 fn put_order(row: [u64; ORDER_WORDS], out: &mut [u8], at: usize) -> usize
-    requires { ⌜ at + 16 ≤ length (now out) ⌝ }
+    requires { ⌜ at + 30 ≤ length (now out) ⌝ }
     ensures { λ r. ⌜ Put (orderText row) (now (out .entry)) (now (out .exit)) at r ⌝ }
 {
-    let at = put_kind(row[0], out, at);
-    let at = put_number(b':', row[1], out, at);
-    put_number(b':', row[2], out, at)
+    let at = put_kind(row[ORDER_KIND], out, at);
+    let at = put_number(b':', row[ORDER_RADIO], row[ORDER_RADIO + 1], out, at);
+    put_number(b':', row[ORDER_GROUP], row[ORDER_GROUP + 1], out, at)
 }
 
 // A and the first `count` orders.
@@ -53,12 +58,12 @@ pub fn put_orders(rows: &[[u64; ORDER_WORDS]], count: usize, out: &mut [u8]) -> 
 
 // A radio and its state.
 fn put_member(row: [u64; ENTRY_WORDS], out: &mut [u8], at: usize) -> usize
-    requires { ⌜ at + 9 ≤ length (now out) ⌝ }
+    requires { ⌜ at + 16 ≤ length (now out) ⌝ }
     ensures { λ r. ⌜ Put (memberText row) (now (out .entry)) (now (out .exit)) at r ⌝ }
 {
-    let at = put_number(b' ', row[0], out, at);
+    let at = put_number(b' ', row[ENTRY_RADIO], row[ENTRY_RADIO + 1], out, at);
     let at = put_byte(b'=', out, at);
-    put_digits(row[1], 1, out, at)
+    put_digits(row[ENTRY_STATE], 1, out, at)
 }
 
 // A and the first `count` radios.

@@ -4,7 +4,9 @@ use crate::pieces::digit_of;
 use crate::pieces::put_byte;
 use crate::pieces::put_digits;
 use crate::pieces::put_number;
+use crate::pieces::put_parts;
 use crate::pieces::put_text;
+use order::Itsi;
 use replies::Shown;
 use rows::MAX_LETTERS;
 use rows::MAX_OWNERS;
@@ -47,17 +49,19 @@ fn late(class: u64, lifetime: u64, temporary: u64) -> [u8; 31]
 }
 
 // The first `count` owners, parted by commas.
-fn put_owners(owners: [u64; MAX_OWNERS], count: usize, out: &mut [u8], at: usize) -> usize
-    requires { ⌜ (count ≤ 11) × (at + 77 ≤ length (now out)) ⌝ }
-    ensures { λ r. ⌜ (r ≤ at + 77) × Put (ownersText (take count owners)) (now (out .entry)) (now (out .exit)) at r ⌝ }
+fn put_owners(owners: [Itsi; MAX_OWNERS], count: usize, out: &mut [u8], at: usize) -> usize
+    requires { ⌜ (count ≤ 11) × (at + 153 ≤ length (now out)) ⌝ }
+    ensures { λ r. ⌜ (r ≤ at + 153) × Put (ownersText (take count owners)) (now (out .entry)) (now (out .exit)) at r ⌝ }
 {
     if count == 0 {
         return at;
     }
-    let mut next = put_digits(owners[0], 6, out, at);
+    let first = owners[0];
+    let mut next = put_parts(first.0 as u64, first.1 as u64, out, at);
     let mut i = 1;
     while i < count {
-        next = put_number(b',', owners[i], out, next);
+        let owner = owners[i];
+        next = put_number(b',', owner.0 as u64, owner.1 as u64, out, next);
         i += 1;
     }
     next
@@ -83,7 +87,7 @@ fn put_name(name: [u64; MAX_LETTERS], count: usize, out: &mut [u8], at: usize) -
 // The owners, and the parameters up to the name.
 pub fn put_front(shown: Shown, out: &mut [u8]) -> usize
     requires { ⌜ longest ≤ length (now out) ⌝ }
-    ensures { λ r. ⌜ (r ≤ 111) × Put (frontText shown) (now (out .entry)) (now (out .exit)) 0 r ⌝ }
+    ensures { λ r. ⌜ (r ≤ 187) × Put (frontText shown) (now (out .entry)) (now (out .exit)) 0 r ⌝ }
 {
     let owners = shown.owners;
     let at = put_text(b"A owners=", out, 0);

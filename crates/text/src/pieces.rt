@@ -4,6 +4,7 @@ ghost use mathlib.Core.List.{[], _∷_};
 ghost use Prim.Native.Nat.{_+_, _≤_};
 ghost use lib.ListN.{length};
 ghost use Rattle.text.specs.Digits.{digit, digitsText};
+ghost use Rattle.text.specs.Text.{numberText};
 ghost use Rattle.text.specs.Put.{Put};
 
 // The digit of a value below 16.
@@ -42,13 +43,23 @@ pub fn put_digits(value: u64, width: usize, out: &mut [u8], at: usize) -> usize
     at + width
 }
 
-// A number of six digits behind a mark.
-pub fn put_number(mark: u8, number: u64, out: &mut [u8], at: usize) -> usize
-    requires { ⌜ at + 7 ≤ length (now out) ⌝ }
-    ensures { λ r. ⌜ Put (mark ∷ digitsText number 6) (now (out .entry)) (now (out .exit)) at r ⌝ }
+// Both parts of a number, six digits each, parted by a slash.
+pub fn put_parts(ssi: u64, extension: u64, out: &mut [u8], at: usize) -> usize
+    requires { ⌜ at + 13 ≤ length (now out) ⌝ }
+    ensures { λ r. ⌜ Put (numberText ssi extension) (now (out .entry)) (now (out .exit)) at r ⌝ }
 {
-    let next = put_byte(mark, out, at);
-    put_digits(number, 6, out, next)
+    let at = put_digits(ssi, 6, out, at);
+    let at = put_byte(b'/', out, at);
+    put_digits(extension, 6, out, at)
+}
+
+// A number behind a mark.
+pub fn put_number(mark: u8, ssi: u64, extension: u64, out: &mut [u8], at: usize) -> usize
+    requires { ⌜ at + 14 ≤ length (now out) ⌝ }
+    ensures { λ r. ⌜ Put (mark ∷ numberText ssi extension) (now (out .entry)) (now (out .exit)) at r ⌝ }
+{
+    let at = put_byte(mark, out, at);
+    put_parts(ssi, extension, out, at)
 }
 
 // A text as it stands.

@@ -11,7 +11,7 @@ use borrow.Author.Tests.{le-ltb, leb-true}
 use Rattle.order.specs.declared.Identity.{Identity}
 use Rattle.words.specs.declared.Taken.{Taken}
 use Rattle.words.specs.Character.{blank, comma, hyphen, slash, colon, letterN, letterY}
-use Rattle.words.specs.Words.{nowhere, standsAt, markAt, bad, wordOf, enoughAt, digitsAt, wordAt, numberAt, roomAt, choiceAt}
+use Rattle.words.specs.Words.{nowhere, standsAt, markAt, bad, wordOf, enoughAt, digitsAt, wordAt, numberAt, groupAt, roomAt, choiceAt}
 use Rattle.words.specs.Series.{itemAt, listFrom, seriesAt, seriesOrNoneAt}
 use Rattle.words.proofs.Words.{enough-within}
 
@@ -58,6 +58,10 @@ module _ (line : List ℕ) (any : length line ≤ nowhere) where
   pub number-nowhere : (numberAt line nowhere) .next ≡ nowhere
   unfolding numberAt
   number-nowhere = rw (word-nowhere 8, mark-nowhere slash) (digits-nowhere 8)
+
+  pub group-nowhere : (groupAt line nowhere) .next ≡ nowhere
+  unfolding groupAt
+  group-nowhere = rw (word-nowhere 8, stands-nowhere slash) refl
 
   pub room-nowhere : (roomAt line nowhere) .next ≡ nowhere
   unfolding roomAt

@@ -8,10 +8,10 @@ use lib.ListN.{length, take, drop, set, replicate, length-set, take-append-drop}
 use lib.Seq.{length-take-le, take-suc-set, take-all, drop-drop, drop-set-lt}
 use borrow.Author.Tests.{eq-eqb, ne-eqb}
 use Rattle.order.specs.declared.Identity.{Identity}
-use Rattle.words.specs.declared.Taken.{Taken}
+use Rattle.words.specs.declared.TakenShort.{TakenShort}
 use Rattle.words.specs.declared.TakenIdentity.{TakenIdentity}
-use Rattle.words.specs.Character.{colon}
-use Rattle.words.specs.Words.{nowhere, markAt, wordAt}
+use Rattle.words.specs.Character.{blank, colon}
+use Rattle.words.specs.Words.{nowhere, markAt, shortAt}
 use Rattle.words.specs.Series.{nobody, namedAt, itemAt, listed, listFrom, seriesAt}
 
 -- the first i places are taken, and nobody is in the others: what stands from `next` on makes behind them what the whole list makes
@@ -22,7 +22,7 @@ pub record Listing (line : List ℕ) (at code : ℕ) (identity : List Identity) 
   pub makes : listFrom (10 - i) code line (take i identity) next ≡ seriesAt line at
 
 module _ {line : List ℕ} {at : ℕ} where
-  pub list-start : {code : Taken} {next : ℕ} → code ≡ wordAt line at 1 → next ≡ markAt line (code .next) colon
+  pub list-start : {code : TakenShort} {next : ℕ} → code ≡ shortAt line (markAt line at blank) 1 → next ≡ markAt line (code .next) colon
       → Listing line at (code .value) (replicate 10 nobody) 0 next
   unfolding seriesAt
   list-start e n = record { few = omega arith; ten = refl; blank = refl; makes = rw (n, e) }

@@ -11,6 +11,8 @@ use Rattle.words.proofs.word.Kinds as word-kinds
 use Rattle.words.proofs.word.Reads as word
 use Rattle.words.proofs.number.Kinds as number-kinds
 use Rattle.words.proofs.number.Reads as number
+use Rattle.words.proofs.group.Kinds as group-kinds
+use Rattle.words.proofs.group.Reads as group
 use Rattle.words.proofs.room.Kinds as room-kinds
 use Rattle.words.proofs.room.Reads as room
 use Rattle.words.proofs.choice.Kinds as choice-kinds
@@ -35,6 +37,10 @@ module _ (κs : Lfts 1) (a : Dens κs word-kinds.ps) (r r′ : resT word-kinds.r
 module _ (κs : Lfts 1) (a : Dens κs number-kinds.ps) (r r′ : resT number-kinds.r κs .Denot) (s s′ : AtExit (endedOf 1 number-kinds.ps number-kinds.r) κs) where
   pub number-unique : number.Post κs a r s → number.Post κs a r′ s′ → r ≡ r′
   number-unique p q = p ∙ sym q
+
+module _ (κs : Lfts 1) (a : Dens κs group-kinds.ps) (r r′ : resT group-kinds.r κs .Denot) (s s′ : AtExit (endedOf 1 group-kinds.ps group-kinds.r) κs) where
+  pub group-unique : group.Post κs a r s → group.Post κs a r′ s′ → r ≡ r′
+  group-unique p q = p ∙ sym q
 
 module _ (κs : Lfts 1) (a : Dens κs room-kinds.ps) (r r′ : resT room-kinds.r κs .Denot) (s s′ : AtExit (endedOf 1 room-kinds.ps room-kinds.r) κs) where
   pub room-unique : room.Post κs a r s → room.Post κs a r′ s′ → r ≡ r′

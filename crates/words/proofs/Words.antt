@@ -10,7 +10,7 @@ use borrow.Author.Tests.{ltb-true, le-leb, lt-leb, leb-true, leb-false}
 use Rattle.words.specs.Words.{standsAt, enoughAt}
 
 -- of two tests that hold together each holds
-both-hold : (s t : Bool) → (s && t) ≡ true → (s ≡ true) × (t ≡ true)
+pub both-hold : (s t : Bool) → (s && t) ≡ true → (s ≡ true) × (t ≡ true)
 both-hold true t e = (refl, e)
 both-hold false t e = (e, cc)
 

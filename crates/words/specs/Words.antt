@@ -7,6 +7,10 @@ use lib.ListN.{length, getD}
 use lib.Seq.{slice}
 use Rattle.house.specs.Hex.{digitValue, allDigits}
 use Rattle.words.specs.declared.Taken.{Taken}
+use Rattle.words.specs.declared.TakenShort.{TakenShort}
+use Rattle.order.specs.declared.GroupAsked.the-variants.{Whole, Plain}
+use Rattle.words.specs.declared.TakenNumber.{TakenNumber}
+use Rattle.words.specs.declared.TakenGroup.{TakenGroup}
 use Rattle.words.specs.Character.{blank, slash, letterN, letterY}
 
 -- a place where no line has a character, so that no reader comes back from it
@@ -42,16 +46,29 @@ enoughAt line at width = leb width 16 && leb (at + width) (length line)
 unfoldable pub digitsAt : List ℕ → ℕ → ℕ → Taken
 digitsAt line at width = cond (enoughAt line at width) (wordOf 0 (slice at (at + width) line) (at + width)) bad
 
+-- the same, where they are few enough for 32 bits
+abbrev pub shortAt : List ℕ → ℕ → ℕ → TakenShort
+shortAt line at width = record { value = digitsAt line at width .value; next = digitsAt line at width .next }
+
 -- a blank and so many digits
 abbrev pub wordAt : List ℕ → ℕ → ℕ → Taken
 wordAt line at width = digitsAt line (markAt line at blank) width
 
--- a blank and a NUMBER: 8 digits of SSI, '/', 8 of extension, which plays no part
-unfoldable pub numberAt : List ℕ → ℕ → Taken
+-- a blank and a NUMBER: 8 digits of SSI, '/', 8 of extension
+unfoldable pub numberAt : List ℕ → ℕ → TakenNumber
 numberAt line at =
     let ssi = wordAt line at 8 in
     let extension = digitsAt line (markAt line (ssi .next) slash) 8 in
-    record { value = ssi .value; next = extension .next }
+    record { ssi = ssi .value; extension = extension .value; next = extension .next }
+
+-- a blank and a GROUP: a NUMBER, or 8 digits of SSI alone
+unfoldable pub groupAt : List ℕ → ℕ → TakenGroup
+groupAt line at =
+    let ssi = wordAt line at 8 in
+    let whole = numberAt line at in
+    cond (standsAt line (ssi .next) slash)
+    (record { group = Whole (whole .ssi, whole .extension); next = whole .next })
+    (record { group = Plain (ssi .value); next = ssi .next })
 
 -- a blank and a ROOM: 4 digits, at most 0800
 unfoldable pub roomAt : List ℕ → ℕ → Taken

@@ -1,11 +1,14 @@
 // The words of a desk's line. A reader goes from a place of the line to the place behind what it read.
 // Where something else stands it goes to NOWHERE, and from NOWHERE no reader comes back: a line is good where its last reader ends at the line's end.
+use order::GroupAsked;
+use order::Gtsi;
 use order::Identity;
 use order::Listed;
 use order::Numbers;
+ghost use Prim.Native.Nat.{_≤_};
 ghost use mathlib.Core.Path.{_≡_};
 ghost use Rattle.house.specs.Hex.{digitValue};
-ghost use Rattle.words.specs.Words.{standsAt, markAt, bad, enoughAt, digitsAt, wordAt, numberAt, roomAt, choiceAt};
+ghost use Rattle.words.specs.Words.{standsAt, markAt, bad, enoughAt, digitsAt, shortAt, wordAt, numberAt, groupAt, roomAt, choiceAt};
 ghost use Rattle.words.specs.Series.{identityWith, namedAt, itemAt, seriesAt, noList, seriesOrNoneAt};
 
 // The place behind a bad word: past the end of every line.
@@ -26,6 +29,25 @@ const ROOM: u64 = 0x800;
 // A value, and the place behind it.
 pub struct Taken {
     pub value: u64,
+    pub next: usize,
+}
+
+// A value of at most 8 digits, and the place behind it.
+struct TakenShort {
+    value: u32,
+    next: usize,
+}
+
+// A NUMBER, and the place behind it.
+pub struct TakenNumber {
+    pub ssi: u32,
+    pub extension: u32,
+    pub next: usize,
+}
+
+// A GROUP, and the place behind it.
+pub struct TakenGroup {
+    pub group: GroupAsked,
     pub next: usize,
 }
 
@@ -122,15 +144,46 @@ pub fn word(line: &[u8], at: usize, width: usize) -> Taken
     digits(line, mark(line, at, b' '), width)
 }
 
-// A blank and a NUMBER: the SSI; the extension plays no part.
-pub fn number(line: &[u8], at: usize) -> Taken
+// So many digits, at most 8, as a number of an order has them.
+fn short_digits(line: &[u8], at: usize, width: usize) -> TakenShort
+    requires { ⌜ width ≤ 8 ⌝ }
+    ensures { λ r. ⌜ r ≡ shortAt (now (line .entry)) at width ⌝ }
+{
+    let taken = digits(line, at, width);
+    TakenShort {
+        value: taken.value as u32,
+        next: taken.next,
+    }
+}
+
+// A blank and a NUMBER.
+pub fn number(line: &[u8], at: usize) -> TakenNumber
     ensures { λ r. ⌜ r ≡ numberAt (now (line .entry)) at ⌝ }
 {
-    let ssi = word(line, at, 8);
-    let extension = digits(line, mark(line, ssi.next, b'/'), 8);
-    Taken {
-        value: ssi.value,
+    let ssi = short_digits(line, mark(line, at, b' '), 8);
+    let extension = short_digits(line, mark(line, ssi.next, b'/'), 8);
+    TakenNumber {
+        ssi: ssi.value,
+        extension: extension.value,
         next: extension.next,
+    }
+}
+
+// A blank and a GROUP: a NUMBER, or an SSI alone.
+pub fn group(line: &[u8], at: usize) -> TakenGroup
+    ensures { λ r. ⌜ r ≡ groupAt (now (line .entry)) at ⌝ }
+{
+    let ssi = short_digits(line, mark(line, at, b' '), 8);
+    if stands(line, ssi.next, b'/') {
+        let whole = number(line, at);
+        return TakenGroup {
+            group: GroupAsked::Whole(Gtsi(whole.ssi, whole.extension)),
+            next: whole.next,
+        };
+    }
+    TakenGroup {
+        group: GroupAsked::Plain(ssi.value),
+        next: ssi.next,
     }
 }
 
@@ -163,7 +216,7 @@ pub fn choice(line: &[u8], at: usize) -> Taken
 }
 
 // The identity that a form and two values make: the first is the SNA in form 0, else the SSI.
-fn identity_of(form: u64, value: u64, extension: u64) -> Identity
+fn identity_of(form: u32, value: u32, extension: u32) -> Identity
     ensures { λ r. ⌜ r ≡ identityWith form value extension ⌝ }
 {
     if form == 0 {
@@ -186,9 +239,9 @@ fn identity_of(form: u64, value: u64, extension: u64) -> Identity
 fn named(line: &[u8], at: usize) -> TakenIdentity
     ensures { λ r. ⌜ r ≡ namedAt (now (line .entry)) at ⌝ }
 {
-    let form = digits(line, at, 1);
-    let value = digits(line, mark(line, form.next, b'.'), 8);
-    let extension = digits(line, mark(line, value.next, b'.'), 8);
+    let form = short_digits(line, at, 1);
+    let value = short_digits(line, mark(line, form.next, b'.'), 8);
+    let extension = short_digits(line, mark(line, value.next, b'.'), 8);
     TakenIdentity {
         identity: identity_of(form.value, value.value, extension.value),
         next: extension.next,
@@ -229,7 +282,7 @@ fn no_list(next: usize) -> TakenList
 pub fn series(line: &[u8], at: usize) -> TakenList
     ensures { λ r. ⌜ r ≡ seriesAt (now (line .entry)) at ⌝ }
 {
-    let code = word(line, at, 1);
+    let code = short_digits(line, mark(line, at, b' '), 1);
     let mut identity = [identity_of(0, 0, 0); MOST];
     let mut next = mark(line, code.next, b':');
     let mut i = 0;

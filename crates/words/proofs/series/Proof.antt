@@ -12,17 +12,20 @@ Inv-loop line at code identity₀ next₀ i₀ identity next i = Listing line at
 abbrev μ-loop : tie.MeasureT-loop
 μ-loop line at code identity₀ next₀ i₀ identity next i = 10 - i
 
-word-requires : tie.Need-word-requires Inv-loop μ-loop
-word-requires c κs = search needs
+mark-requires : tie.Need-mark-requires Inv-loop μ-loop
+mark-requires c κs = search needs
+
+short-digits-requires : tie.Need-short-digits-requires Inv-loop μ-loop
+short-digits-requires c κs = search needs
 
 identity-of-requires : tie.Need-identity-of-requires Inv-loop μ-loop
 identity-of-requires c κs = search needs
 
-mark-requires : tie.Need-mark-requires Inv-loop μ-loop
-mark-requires c κs = search needs
+mark-requires-2 : tie.Need-mark-requires-2 Inv-loop μ-loop
+mark-requires-2 c κs = search needs
 
 loop-holds : tie.Need-loop-holds Inv-loop μ-loop
-loop-holds c = rw (c .before .identity-of .ensures) (list-start (c .before .before .word .ensures) (c .mark .ensures))
+loop-holds c = rw (c .before .identity-of .ensures) (list-start (rw (c .before .before .before .mark .ensures) at (c .before .before .short-digits .ensures)) (c .mark2 .ensures))
 
 item-requires : tie.Need-item-requires Inv-loop μ-loop
 item-requires c κs = search needs
@@ -59,9 +62,10 @@ series-spec =
     (tie.spec
     Inv-loop
     μ-loop
-    word-requires
-    identity-of-requires
     mark-requires
+    short-digits-requires
+    identity-of-requires
+    mark-requires-2
     loop-holds
     item-requires
     named-requires

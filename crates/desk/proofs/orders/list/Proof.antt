@@ -6,8 +6,8 @@ use borrow.Author.Needs.{needs}
 use Rattle.desk.proofs.orders.list.Statement.{statement}
 use Rattle.desk.proofs.orders.list.Tie as tie
 
-read-two-requires : tie.Need-read-two-requires
-read-two-requires c κs = search needs
+read-question-requires : tie.Need-read-question-requires
+read-question-requires c κs = search needs
 
 room-requires : tie.Need-room-requires
 room-requires c κs = search needs
@@ -37,7 +37,7 @@ pub list-spec : {M : Type 1} → statement M
 list-spec =
     tie.close
     (tie.spec
-    read-two-requires
+    read-question-requires
     room-requires
     returns
     places-requires

@@ -7,6 +7,15 @@ use Rattle.text.proofs.listed.put_member.Tie as tie
 array-read-put-number : tie.Need-array-read-put-number
 array-read-put-number c = omega arith
 
+add-put-number : tie.Need-add-put-number
+add-put-number c = omega arith
+
+mul-put-number : tie.Need-mul-put-number
+mul-put-number c = omega arith
+
+array-read-put-number-2 : tie.Need-array-read-put-number-2
+array-read-put-number-2 c = omega arith
+
 put-number-requires : tie.Need-put-number-requires
 put-number-requires c κs = omega arith
 
@@ -33,6 +42,9 @@ put-member-spec =
     tie.close
     (tie.spec
     array-read-put-number
+    add-put-number
+    mul-put-number
+    array-read-put-number-2
     put-number-requires
     put-byte-requires
     array-read-put-digits

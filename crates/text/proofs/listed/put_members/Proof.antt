@@ -10,7 +10,7 @@ use Rattle.text.proofs.listed.put_members.Statement.{statement}
 use Rattle.text.proofs.listed.put_members.Tie as tie
 
 abbrev Inv-loop : tie.InvT-loop
-Inv-loop rows count out₀ at₀ i₀ out at i = Walk memberText 9 rows count out₀ at₀ i₀ out at i
+Inv-loop rows count out₀ at₀ i₀ out at i = Walk memberText 16 rows count out₀ at₀ i₀ out at i
 
 abbrev μ-loop : tie.MeasureT-loop
 μ-loop rows count out₀ at₀ i₀ out at i = count - i
@@ -19,7 +19,7 @@ put-byte-requires : tie.Need-put-byte-requires Inv-loop μ-loop
 put-byte-requires c κs = omega arith
 
 loop-holds : tie.Need-loop-holds Inv-loop μ-loop
-loop-holds c = walk-start memberText 9 (omega arith)
+loop-holds c = walk-start memberText 16 (omega arith)
 
 mul-put-member : tie.Need-mul-put-member Inv-loop μ-loop
 mul-put-member c = omega arith
@@ -39,7 +39,7 @@ loop-less c = omega arith
 loop-again : tie.Need-loop-again Inv-loop μ-loop
 loop-again c =
     let turn = c .before .before in
-    walk-turn memberText 9 (λ row. refl) (turn .before .before .before .before .loop .inv) (omega arith) [] (omega arith) (turn .put-member .ensures)
+    walk-turn memberText 16 (λ row. refl) (turn .before .before .before .before .loop .inv) (omega arith) [] (omega arith) (turn .put-member .ensures)
 
 same-length : tie.Need-same-length Inv-loop μ-loop
 same-length c = omega arith
@@ -47,7 +47,7 @@ same-length c = omega arith
 returns : tie.Need-returns Inv-loop μ-loop
 returns c =
     let done = c .before in
-    let rest = walk-end memberText 9 (λ row. refl) (done .loop .inv) (omega arith) (omega arith) in
+    let rest = walk-end memberText 16 (λ row. refl) (done .loop .inv) (omega arith) (omega arith) in
     (omega arith, put-then (done .before .before .before .put-byte .ensures) rest)
 
 pub put-members-spec : {M : Type 1} → statement M

@@ -13,11 +13,29 @@ put-kind-requires c κs = omega arith
 array-read-put-number : tie.Need-array-read-put-number
 array-read-put-number c = omega arith
 
-put-number-requires : tie.Need-put-number-requires
-put-number-requires c κs = omega arith
+add-put-number : tie.Need-add-put-number
+add-put-number c = omega arith
+
+mul-put-number : tie.Need-mul-put-number
+mul-put-number c = omega arith
 
 array-read-put-number-2 : tie.Need-array-read-put-number-2
 array-read-put-number-2 c = omega arith
+
+put-number-requires : tie.Need-put-number-requires
+put-number-requires c κs = omega arith
+
+array-read-put-number-3 : tie.Need-array-read-put-number-3
+array-read-put-number-3 c = omega arith
+
+add-put-number-2 : tie.Need-add-put-number-2
+add-put-number-2 c = omega arith
+
+mul-put-number-2 : tie.Need-mul-put-number-2
+mul-put-number-2 c = omega arith
+
+array-read-put-number-4 : tie.Need-array-read-put-number-4
+array-read-put-number-4 c = omega arith
 
 put-number-requires-2 : tie.Need-put-number-requires-2
 put-number-requires-2 c κs = omega arith
@@ -38,8 +56,14 @@ put-order-spec =
     array-read-put-kind
     put-kind-requires
     array-read-put-number
-    put-number-requires
+    add-put-number
+    mul-put-number
     array-read-put-number-2
+    put-number-requires
+    array-read-put-number-3
+    add-put-number-2
+    mul-put-number-2
+    array-read-put-number-4
     put-number-requires-2
     same-length
     returns)

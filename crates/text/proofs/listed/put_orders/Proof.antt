@@ -10,7 +10,7 @@ use Rattle.text.proofs.listed.put_orders.Statement.{statement}
 use Rattle.text.proofs.listed.put_orders.Tie as tie
 
 abbrev Inv-loop : tie.InvT-loop
-Inv-loop rows count out₀ at₀ i₀ out at i = Walk orderText 16 rows count out₀ at₀ i₀ out at i
+Inv-loop rows count out₀ at₀ i₀ out at i = Walk orderText 30 rows count out₀ at₀ i₀ out at i
 
 abbrev μ-loop : tie.MeasureT-loop
 μ-loop rows count out₀ at₀ i₀ out at i = count - i
@@ -19,7 +19,7 @@ put-byte-requires : tie.Need-put-byte-requires Inv-loop μ-loop
 put-byte-requires c κs = omega arith
 
 loop-holds : tie.Need-loop-holds Inv-loop μ-loop
-loop-holds c = walk-start orderText 16 (omega arith)
+loop-holds c = walk-start orderText 30 (omega arith)
 
 mul-put-order : tie.Need-mul-put-order Inv-loop μ-loop
 mul-put-order c = omega arith
@@ -39,7 +39,7 @@ loop-less c = omega arith
 loop-again : tie.Need-loop-again Inv-loop μ-loop
 loop-again c =
     let turn = c .before .before in
-    walk-turn orderText 16 (λ row. refl) (turn .before .before .before .before .loop .inv) (omega arith) [] (omega arith) (turn .put-order .ensures)
+    walk-turn orderText 30 (λ row. refl) (turn .before .before .before .before .loop .inv) (omega arith) [] (omega arith) (turn .put-order .ensures)
 
 same-length : tie.Need-same-length Inv-loop μ-loop
 same-length c = omega arith
@@ -47,7 +47,7 @@ same-length c = omega arith
 returns : tie.Need-returns Inv-loop μ-loop
 returns c =
     let done = c .before in
-    let rest = walk-end orderText 16 (λ row. refl) (done .loop .inv) (omega arith) (omega arith) in
+    let rest = walk-end orderText 30 (λ row. refl) (done .loop .inv) (omega arith) (omega arith) in
     (omega arith, put-then (done .before .before .before .put-byte .ensures) rest)
 
 pub put-orders-spec : {M : Type 1} → statement M

@@ -1,7 +1,9 @@
 -- `text::parts::put_front` meets its contract: its pieces are put one behind the other.
-use mathlib.Core.Path.{_≡_, ap, sym}
+use mathlib.Core.Path.{_≡_, ap, sym, _∙_}
+use mathlib.Core.List.{List, map}
+use Prim.Native.Nat.{ℕ}
 use native.Mathlib.Omega.{arith}
-use lib.ListN.{length}
+use lib.ListN.{length, length-map}
 use Rattle.text.specs.Text.{ownersText}
 use Rattle.text.proofs.Puts.{put-as, put-then}
 use Rattle.text.proofs.Texts.{take-fit}
@@ -9,9 +11,13 @@ use borrow.Author.Needs.{needs}
 use Rattle.text.proofs.parts.put_front.Statement.{statement}
 use Rattle.text.proofs.parts.put_front.Tie as tie
 
--- the owner's places
+-- of an array of structs the length is known of what they are mapped to
+length-mapped : (X Y : Type 0) (f : X → Y) (l : List X) (n : ℕ) → length (map f l) ≡ n → length l ≡ n
+length-mapped X Y f l n e = sym (length-map l f) ∙ e
+
+-- the owners' places
 full : (c : tie.Start) → length (c .args .shown .owners) ≡ 11
-full c = search needs
+full c = search (needs, length-mapped)
 
 slice-aggregate-put-text : tie.Need-slice-aggregate-put-text
 slice-aggregate-put-text c = omega arith
