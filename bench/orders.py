@@ -1,5 +1,5 @@
 #!/usr/bin/env python3
-"""The mix of bench_ledger.c as order lines for `desk`, and the checksum of the replies.
+"""The mix of bench_ledger.c as order lines for `desk`, all of extension 0, and the checksum of the replies.
   orders.py N [SEED]              the fill, to 320 groups and 2,048 pairs, and N orders of the mix
   orders.py --fill                the fill alone
   orders.py --doubled N [SEED]    the same as N [SEED], and before each order of the mix one that is refused at once behind the test of the written form
@@ -84,10 +84,10 @@ def checksum(replies):
 
     for reply in replies:
         add(0 if reply[0] == "A" else int(reply[1:]))
-        for radio, group in re.findall(r" [ad]:([0-9A-F]{6}):([0-9A-F]{6})", reply):
+        for radio, group in re.findall(r" [ad]:([0-9A-F]{6})/000000:([0-9A-F]{6})/000000", reply):
             add(int(radio, 16))
             add(int(group, 16))
-        for radio, state in re.findall(r" ([0-9A-F]{6})=([0-9A-F]+)", reply):
+        for radio, state in re.findall(r" ([0-9A-F]{6})/000000=([0-9A-F]+)", reply):
             add(int(radio, 16))
             add(int(state, 16))
     return f"{h:08X}"
