@@ -68,6 +68,10 @@ empty-laid c r = ap (λ (z : List ℕ). contents z (c .groups) (c .pairs)) (set-
 
 -- ---- an answer ----
 
+-- the pair that it names
+abbrev pub pairNamed : Itsi → Gtsi → Pair
+pairNamed radio group = (key (groupNumber group), key (radioNumber radio))
+
 module _ (c : Contents) (w : Sound c) where
   -- what the place of a pair says of the rows
   pub pair-in-rows : (p : Place) (k : Pair) → p ≡ placeOf belowPair samePair (pairsOf (pairCount c) (c .pairs)) k
@@ -92,21 +96,21 @@ module _ (c : Contents) (w : Sound c) where
       ∙ rw (x i (s .inside), add-one)
 
   pub answered-laid : (radio : Itsi) (group : Gtsi) (result i n : ℕ) (rows : List (List ℕ))
-      → At i ≡ placeOf belowPair samePair (pairsOf (pairCount c) (c .pairs)) (key (groupNumber group), key (radioNumber radio))
+      → At i ≡ placeOf belowPair samePair (pairsOf (pairCount c) (c .pairs)) (pairNamed radio group)
       → Fills pairRow (settled (pairOf (getD (c .pairs) i []) .0) result i (pairsOf (pairCount c) (c .pairs))) (c .pairs) rows n
       → contents (set (c .head) 1 n) (c .groups) rows ≡ laid (apply placing (ledgerOf c) (effect (view (ledgerOf c)) (answerStep radio group result))) c
   answered-laid radio group result i n rows e f =
-      let q = sym (answered-one (key (groupNumber group), key (radioNumber radio)) result i e) in
-      turned-laid c w (λ g r m. cond (samePair (g, r) (key (groupNumber group), key (radioNumber radio))) (answered result) (some m)) n rows (f .counts ∙ ap length q)
+      let q = sym (answered-one (pairNamed radio group) result i e) in
+      turned-laid c w (λ g r m. cond (samePair (g, r) (pairNamed radio group)) (answered result) (some m)) n rows (f .counts ∙ ap length q)
       (f .rows ∙ ap (λ (z : List (Pair × Mark)). onto (map pairRow z) (c .pairs)) q)
 
   -- an answer of a pair that is not there is refused
   pub no-pair-refused : {P : Type 0} (radio : Itsi) (group : Gtsi) (result i : ℕ)
-      → Free i ≡ placeOf belowPair samePair (pairsOf (pairCount c) (c .pairs)) (key (groupNumber group), key (radioNumber radio))
+      → Free i ≡ placeOf belowPair samePair (pairsOf (pairCount c) (c .pairs)) (pairNamed radio group)
       → refused placing (ledgerOf c) (answerStep radio group result) ≡ none → P
   no-pair-refused radio group result i e t =
       let s = answerStep radio group result in
       let v = view (ledgerOf c) in
       let q = tests-pass (tests v (tally placing (ledgerOf c) (effect v s)) s) t 2 in
-      let f = pair-in-rows (Free i) (key (groupNumber group), key (radioNumber radio)) e .found in
+      let f = pair-in-rows (Free i) (pairNamed radio group) e .found in
       clash (rw f at q)

@@ -34,7 +34,8 @@ ownedReply Own = Done
 ownedReply Other = Refused NotOwner
 
 module _ (c : Contents) (asker : Itsi) (group : Gtsi) (w : Sound c) (n : (wideNumber (radioNumber asker) || wideNumber (groupNumber group)) ≡ false) where
-  pub asked-owned : (g a : ℕ) → g ≡ key (groupNumber group) → a ≡ key (radioNumber asker) → (o x : Owned) → x ≡ o → x ≡ ownedAs (lookedUp ltb eqb (ledgerOf c .groups) g) a
+  pub asked-owned : (g a : ℕ) → g ≡ key (groupNumber group) → a ≡ key (radioNumber asker)
+      → (o x : Owned) → x ≡ o → x ≡ ownedAs (lookedUp ltb eqb (ledgerOf c .groups) g) a
       → ownedReply o ≡ replyOf (judged c (showRefusal (view (ledgerOf c)) (radioNumber asker) (groupNumber group)))
   asked-owned g a p q o x d e =
       let f = ap (λ (z : Option Group). ownedAs z a) (looked-found numbers-linear (ledgerOf c .groups) g (groups-rise c w)) in

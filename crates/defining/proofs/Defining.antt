@@ -89,7 +89,8 @@ module _ (c : Contents) (w : Sound c) (asker : Itsi) (k : RadioKey) (same : k .0
 -- ---- the row that is read says the group that the order gives, and the state is the law's ----
 
 module _ (asker : Itsi) (values : List ℕ) (l : Ledger) (room : ℕ) where
-  pub group-said : (os : List ℕ) → os ≡ rising (defineOwners (defineOf (radioNumber asker) values)) → length os ≤ maxOwners → badName (optionalName values) ≡ false
+  pub group-said : (os : List ℕ) → os ≡ rising (defineOwners (defineOf (radioNumber asker) values)) → length os ≤ maxOwners
+      → badName (optionalName values) ≡ false
       → groupOf (orderRowOf values os) .1 ≡ given placing (effect (view l) (defineStep asker values room))
   unfolding defineOf
   group-said os e few good =

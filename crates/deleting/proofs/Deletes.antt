@@ -58,6 +58,13 @@ module _ (c : Contents) (w : Sound c) where
 
   -- the groups are a list that is given
   module _ (asker : Itsi) (named : Listed) (given : named .given ≡ true) (remove deassign : Bool) (radios : Listed) (room : ℕ) where
+    -- the groups and the radios that it names
+    abbrev gs : List ℕ
+    gs = numbersIn (asker .1) (listOf named)
+
+    abbrev rs : List ℕ
+    rs = numbersIn (asker .1) (listOf radios)
+
     abbrev pub step : Step
     step = deleteStep asker (named .numbers) remove deassign radios room
 
@@ -65,13 +72,12 @@ module _ (c : Contents) (w : Sound c) where
     forms = formTests asker named deassign radios
 
     abbrev pub stands : List (Refusal × Bool)
-    stands = standTests (ledgerOf c .groups) (ledgerOf c .pairs) (key (radioNumber asker)) (numbersIn (asker .1) (listOf named))
-        remove deassign (radios .given) (numbersIn (asker .1) (listOf radios)) room
+    stands = standTests (ledgerOf c .groups) (ledgerOf c .pairs) (key (radioNumber asker)) gs remove deassign (radios .given) rs room
 
     pub delete-sends : outgoing (view (ledgerOf c)) (tally placing (ledgerOf c) (effect (view (ledgerOf c)) step)) step
-        ≡ leavingOrders deassign (radios .given) (numbersIn (asker .1) (listOf radios)) (ledgerOf c .pairs) (numbersIn (asker .1) (listOf named))
+        ≡ leavingOrders deassign (radios .given) rs (ledgerOf c .pairs) gs
     delete-sends = rw given (join-same _ _
-        (λ g. rw (given-present (radios .given) (numbersOf (radios .numbers))) (all-leave deassign (radios .given) (numbersIn (asker .1) (listOf radios)) g))
+        (λ g. rw (given-present (radios .given) (numbersOf (radios .numbers))) (all-leave deassign (radios .given) rs g))
         (numbersIn (asker .1) (some (numbersOf (named .numbers)))))
 
     -- its tests are those of form, then those of what stands
@@ -87,7 +93,7 @@ module _ (c : Contents) (w : Sound c) where
     -- a delete that is taken has something to do, and room for its orders
     pub delete-passed : refused placing (ledgerOf c) step ≡ none
         → ((not remove && not deassign) ≡ false)
-        × (length (leavingOrders deassign (radios .given) (numbersIn (asker .1) (listOf radios)) (ledgerOf c .pairs) (numbersIn (asker .1) (listOf named))) ≤ room)
+        × (length (leavingOrders deassign (radios .given) rs (ledgerOf c .pairs) gs) ≤ room)
     delete-passed e =
         let l = tests (view (ledgerOf c)) (tally placing (ledgerOf c) (effect (view (ledgerOf c)) step)) step in
         (tests-pass l e 4, rw (← delete-sends) (ltb-false room _ (tests-pass l e 5)))
@@ -121,8 +127,10 @@ deleted-groups false named l = sym (alter-all l)
 module _ (c : Contents) (w : Sound c) (asker : Itsi) (named : Listed) (given : named .given ≡ true) (remove deassign : Bool) (radios : Listed) (room : ℕ)
     (some-work : (not remove && not deassign) ≡ false) where
   pub deleted-laid : (n m : ℕ) (groups pairs : Rows)
-      → Fills groupRow (groupsLeft (numbersIn (asker .1) (listOf named)) remove (ledgerOf c .groups)) (c .groups) groups n
-      → Fills pairRow (pairsLeft (numbersIn (asker .1) (listOf named)) remove (radios .given) (numbersIn (asker .1) (listOf radios)) (ledgerOf c .pairs)) (c .pairs) pairs m
+      → let gs = numbersIn (asker .1) (listOf named) in
+      let rs = numbersIn (asker .1) (listOf radios) in
+      Fills groupRow (groupsLeft gs remove (ledgerOf c .groups)) (c .groups) groups n
+      → Fills pairRow (pairsLeft gs remove (radios .given) rs (ledgerOf c .pairs)) (c .pairs) pairs m
       → contents (set (set (c .head) 0 n) 1 m) groups pairs
       ≡ laid (apply placing (ledgerOf c) (effect (view (ledgerOf c)) (deleteStep asker (named .numbers) remove deassign radios room))) c
   deleted-laid n m groups pairs fg fp =

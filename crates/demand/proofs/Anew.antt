@@ -69,7 +69,7 @@ pub again-empty : {c₀ c₁ c₂ : Contents} {h : History} → Kept c₀ h
     let o = defineOf (radioNumber maker) (values .place) in
     wideNumber g ≡ false → mem (key g) (numbers (asker .1) (numbersOf named)) ≡ true → mem (key g) (defineGroups o) ≡ true → o .radios ≡ none
     → (reply ≡ Radios 0) × (listed ≡ room)
-again-empty {h = h} k {asker} {named} {deassign} {radios} {space} {n = n} a {maker} {values} {space′} {n′ = n′} b {asked} {room} e narrow gone made none-listed =
+again-empty {h = h} k {asker} {named} {deassign} {radios} {space} {n = n} a {maker} {values} {space′} {n′ = n′} b {asked} {room} e narrow gone made empty =
     let d : Delete = record { asker = radioNumber asker; groups = numbersOf named; delete = true; deassign = deassign; radios = listOf radios } in
     let o = defineOf (radioNumber maker) (values .place) in
     let g = askedNumber maker asked in
@@ -81,6 +81,6 @@ again-empty {h = h} k {asker} {named} {deassign} {radios} {space} {n = n} a {mak
     let l : listIn (h then s then s′) (radioNumber maker) g (length room) ≡ record { refused = none; entries = [] } =
     sym (list-agree placing by-number (h then s then s′) (radioNumber maker) g (length room))
     ∙ ap (λ (x : Number). list (run placing (h then s then s′)) x g (length room)) (sym (defined-by (radioNumber maker) (values .place)))
-    ∙ rules.again-empty placing by-number h d o g (length space) (length space′) (length room) narrow taken refl gone taken′ made none-listed in
+    ∙ rules.again-empty placing by-number h d o g (length space) (length space′) (length room) narrow taken refl gone taken′ made empty in
     let f = demand (defined k₁ b) .lists e in
     (f .0 ∙ ap membersOf l, f .1 ∙ (λ i. onto (map entryRow (l i .entries)) room))

@@ -1,6 +1,6 @@
 -- A ledger in the law's form, laid over contents with room, is read back from them, and they are in the written form.
 use mathlib.Core.Path.{_≡_, refl, sym, ap, _∙_}
-use mathlib.Core.Bool.{true, false, not, _&&_, _||_}
+use mathlib.Core.Bool.{true, false, not, _&&_}
 use mathlib.Core.List.{List, [], _∷_, _++_, map}
 use Prim.Native.Nat.{ℕ, zero, suc, _+_, _-_, _≤_}
 use native.Mathlib.Omega.{arith}
@@ -15,7 +15,7 @@ use Rattle.rules.specs.Refusals.{maxGroups, maxPairs}
 use Rattle.rules.specs.Mark.{Mark}
 use Rattle.rules.specs.Ledger.{Group, Pair, Ledger}
 use Rattle.rules.specs.Written.{maxOwners, goodOwners, goodGroup, goodPair, written}
-use Rattle.rules.proofs.Tests.{and-in, and-l, and-r, or-l, or-r}
+use Rattle.rules.proofs.Tests.{and-in, and-l, and-r}
 use Rattle.rules.proofs.Ranges.{in-range}
 use Rattle.rules.proofs.Written.{written-form}
 use Rattle.order.specs.Walks.{onto}

@@ -1,13 +1,10 @@
 -- After any run of calls the new layout stands for what the old one does, and every call answers as on the old one.
 use mathlib.Core.Path.{_≡_, sym, ap, subst, _∙_}
 use mathlib.Core.List.{List, map}
-use mathlib.Core.Option.{Option}
-use Prim.Native.Nat.{ℕ}
 use lib.ListN.{length}
-use Rattle.refusal.specs.declared.Refusal.{Refusal}
 use Rattle.rules.specs.Order.{Step, tick}
 use Rattle.rules.specs.Outgoing.{Outgoing}
-use Rattle.rules.specs.Replies.{Listing, Showing}
+use Rattle.rules.specs.Replies.{Listing}
 use Rattle.rules.specs.Ledger.{Ledger, view}
 use Rattle.rules.specs.Arrival.{byArrival}
 use Rattle.rules.specs.Stretches.{InStretches}
@@ -20,13 +17,12 @@ use Rattle.rules.proofs.Stretches.{run-in-stretches}
 use Rattle.order.specs.Numbers.{radioNumber, askedNumber}
 use Rattle.order.specs.Steps.{answerStep, defineStep, deleteStep}
 use Rattle.order.specs.Walks.{onto}
-use Rattle.store.specs.Storage.{Rows, Contents, ledgerOf}
+use Rattle.store.specs.Storage.{Rows, Contents}
 use Rattle.replies.specs.Orders.{replyOf}
 use Rattle.replies.specs.Sending.{orderRow, sentReply}
 use Rattle.replies.specs.Listing.{entryRow, membersOf}
 use Rattle.replies.specs.Showing.{shownOf}
 use Rattle.replies.specs.declared.Sent.{Sent}
-use Rattle.replies.specs.declared.Members.{Members}
 use Rattle.demand.specs.Runs.{Kept}
 use Rattle.demand.specs.Before.{old, AsBefore}
 use Rattle.demand.proofs.Demand.{demand}

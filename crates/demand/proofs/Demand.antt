@@ -86,7 +86,7 @@ module _ {c : Contents} {h : History} (k : Stands c h) where
     of = askedNumber asker asked
 
     lists-alike : {room listed : Rows} {reply : Members} → Lists asker asked room listed c reply
-        → (reply ≡ membersOf (list (run placing h) by of (length room))) × (listed ≡ onto (map entryRow (list (run placing h) by of (length room) .entries)) room)
+        → let l = list (run placing h) by of (length room) in (reply ≡ membersOf l) × (listed ≡ onto (map entryRow (l .entries)) room)
     lists-alike {room} e =
         let s = list-says e in
         let l = listed-alike asker (askedGroup asker asked) (length room) in

@@ -24,7 +24,8 @@ entryRow e = ssiOf (e .0) ∷ extensionOf (e .0) ∷ e .1 ∷ []
 
 -- the list on lent contents
 abbrev pub listOn : Contents → Itsi → Gtsi → ℕ → Listing
-listOn c asker group room = cond (isWritten c) (list (ledgerOf c) (radioNumber asker) (groupNumber group) room) (record { refused = some NotWritten; entries = [] })
+listOn c asker group room = cond (isWritten c) (list (ledgerOf c) (radioNumber asker) (groupNumber group) room)
+    (record { refused = some NotWritten; entries = [] })
 
 -- the reply: how many radios, or the refusal
 abbrev pub membersReply : Option Refusal → ℕ → Members

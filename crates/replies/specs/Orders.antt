@@ -1,5 +1,4 @@
 -- What an order does to lent contents: the refusal, which is 18 before all others, and the contents after it.
-use Prim.Native.Nat.{ℕ}
 use mathlib.Core.Path.{_≡_}
 use mathlib.Core.Bool.{cond}
 use mathlib.Core.Option.{Option, none, some}

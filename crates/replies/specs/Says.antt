@@ -1,6 +1,5 @@
 -- Document 01's number, 0 where it is accepted, and the values that each answer says.
-use Prim.Native.Nat.{ℕ}
-use mathlib.Core.List.{List, [], _∷_}
+use mathlib.Core.List.{[], _∷_}
 use Rattle.refusal.specs.Says.{Says, accepted, refusedWith}
 use Rattle.replies.specs.declared.Reply.{Reply}
 use Rattle.replies.specs.declared.Reply.the-variants as reply

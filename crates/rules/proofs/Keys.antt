@@ -1,8 +1,8 @@
 -- Keys and numbers: a key has both parts of its number, keys are the same where both parts are, and they rise by extension, then SSI.
 use Prim.Native.Nat.{ℕ, _+_, _*_, _/_, _%_, _^_, _<_}
-use mathlib.Core.Path.{_≡_, refl, sym, _∙_, ap}
-use mathlib.Core.Bool.{Bool, true, false, _&&_, _||_}
-use lib.Dec.{eqb, ltb, leb}
+use mathlib.Core.Path.{_≡_}
+use mathlib.Core.Bool.{false}
+use lib.Dec.{eqb, ltb}
 use native.Mathlib.Omega.{arith}
 use borrow.Author.Tests.{eqb-true, eqb-false, ltb-true, ltb-false, leb-false, eq-eqb, ne-eqb, lt-ltb, le-ltb, lt-leb}
 use Rattle.rules.specs.Number.{Number, key, ssiOf, extensionOf, numberAt, sameNumber, belowNumber, wide, wideNumber, keyLimit, wideKey}

@@ -9,7 +9,7 @@ use lib.ListN.{length, take}
 use native.Mathlib.Omega.{arith}
 use borrow.Author.Tests.{eqb-true, eqb-false, ltb-false, leb-false, le-leb, lt-ltb}
 use Rattle.rules.specs.Lists.{any, mem, once}
-use Rattle.rules.specs.Number.{Number, Identity, Numbers, count, used, key, plain, identified, numbers, numbersIn}
+use Rattle.rules.specs.Number.{Identity, Numbers, count, used, key, identified, numbers, numbersIn}
 use Rattle.rules.specs.Number.{wide, wideNumber, wideKey, badIdentity, badList, untaken}
 use Rattle.rules.specs.Parameters.{Parameters, over, replaced, tooLarge, badName, badParameters}
 use Rattle.rules.specs.Mark.{Mark, waiting, T1, begun, ticked}

@@ -1,20 +1,20 @@
 -- Two radios with one SSI and two extensions are kept apart.
 use Prim.Native.Nat.{ℕ}
-use mathlib.Core.Path.{_≡_, refl, sym, _∙_, ap}
-use mathlib.Core.Bool.{Bool, true, false, cond, _&&_}
+use mathlib.Core.Path.{_≡_, refl, _∙_, ap}
+use mathlib.Core.Bool.{Bool, false, cond, _&&_}
 use mathlib.Core.List.{List, [], _∷_}
 use mathlib.Core.Option.{Option, none, some}
 use lib.Dec.{eqb}
-use borrow.Author.Tests.{eqb-true, ne-eqb}
+use borrow.Author.Tests.{ne-eqb}
 use Rattle.rules.specs.Lists.{mem, turned}
 use Rattle.rules.specs.Number.{Number, key}
 use Rattle.rules.specs.Mark.{Mark}
-use Rattle.rules.specs.Order.{Define, Delete, Answer, Step, define, delete, answer, defineGroups, defineRadios, deleteGroups}
+use Rattle.rules.specs.Order.{Step, defineGroups, defineRadios, deleteGroups}
 use Rattle.rules.specs.World.{World}
 use Rattle.rules.specs.Effect.{effect}
 use Rattle.rules.specs.Change.{after}
 use Rattle.rules.specs.Refusals.{accepted}
-use Rattle.rules.specs.History.{History, _then_, world, mark, refusalIn}
+use Rattle.rules.specs.History.{History, world, mark, refusalIn}
 use Rattle.rules.specs.Visitor.{Visitor, About, answers, deassigns, assigns, Apart}
 use Rattle.rules.proofs.Tests.{split, and-false}
 use Rattle.rules.proofs.Keys.{keys-same}

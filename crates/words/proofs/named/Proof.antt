@@ -27,7 +27,14 @@ unfolding namedAt
 returns c =
     let value = c .before .before .before in
     let form = value .before .before in
-    rw (c .identity-of .ensures, c .before .short-digits3 .ensures, c .before .before .mark2 .ensures, value .short-digits2 .ensures, value .before .mark .ensures, form .short-digits .ensures)
+    rw (
+      c .identity-of .ensures,
+      c .before .short-digits3 .ensures,
+      c .before .before .mark2 .ensures,
+      value .short-digits2 .ensures,
+      value .before .mark .ensures,
+      form .short-digits .ensures,
+    )
 
 pub named-spec : {M : Type 1} → statement M
 named-spec =

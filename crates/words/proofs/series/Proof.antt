@@ -25,7 +25,9 @@ mark-requires-2 : tie.Need-mark-requires-2 Inv-loop μ-loop
 mark-requires-2 c κs = search needs
 
 loop-holds : tie.Need-loop-holds Inv-loop μ-loop
-loop-holds c = rw (c .before .identity-of .ensures) (list-start (rw (c .before .before .before .mark .ensures) at (c .before .before .short-digits .ensures)) (c .mark2 .ensures))
+loop-holds c =
+    let code = rw (c .before .before .before .mark .ensures) at (c .before .before .short-digits .ensures) in
+    rw (c .before .identity-of .ensures) (list-start code (c .mark2 .ensures))
 
 item-requires : tie.Need-item-requires Inv-loop μ-loop
 item-requires c κs = search needs
