@@ -23,7 +23,7 @@ ghost use mathlib.Core.Bool.{not};
 ghost use mathlib.Core.List.{[], _∷_};
 ghost use mathlib.Core.Path.{_≡_};
 ghost use Rattle.rules.specs.Lists.{keep, inOrder, rising};
-ghost use Rattle.rules.specs.Number.{key, plain, ssiOf, extensionOf, identified, numbers, numbersIn};
+ghost use Rattle.rules.specs.Number.{key, plain, ssiOf, extensionOf, identityKey, numbers, numbersIn};
 ghost use Rattle.rows.specs.Layout.{maxListed};
 ghost use Rattle.order.specs.Keys.{keysAs, groupsAs, radiosAs, ownersAs, groupKeys, radioKeys, ownersHeld};
 ghost use Rattle.order.specs.Lists.{identityOf, numbersAs, listOf};
@@ -93,7 +93,7 @@ pub fn asked_group(asker: Itsi, asked: GroupAsked) -> Gtsi
 
 // The key of the number that an identity of a list names; `home` is the asker's extension, which a plain SSI takes.
 fn identity_key(identity: Identity, home: u32) -> u64
-    ensures { λ r. ⌜ r ≡ key (identified home (identityOf identity)) ⌝ }
+    ensures { λ r. ⌜ r ≡ identityKey home (identityOf identity) ⌝ }
 {
     if identity.form == 2 {
         return key(identity.ssi, identity.extension);

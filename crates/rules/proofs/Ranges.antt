@@ -9,7 +9,7 @@ use lib.ListN.{length, take}
 use native.Mathlib.Omega.{arith}
 use borrow.Author.Tests.{eqb-true, eqb-false, ltb-false, leb-false, le-leb, lt-ltb}
 use Rattle.rules.specs.Lists.{any, mem, once}
-use Rattle.rules.specs.Number.{Identity, Numbers, count, used, key, identified, numbers, numbersIn}
+use Rattle.rules.specs.Number.{Identity, Numbers, count, used, identified, identityKey, numbers, numbersIn}
 use Rattle.rules.specs.Number.{wide, wideNumber, wideKey, badIdentity, badList, untaken}
 use Rattle.rules.specs.Parameters.{Parameters, over, replaced, tooLarge, badName, badParameters}
 use Rattle.rules.specs.Mark.{Mark, waiting, T1, begun, ticked}
@@ -22,10 +22,6 @@ use Rattle.rules.proofs.ListLaws.{mem-once, once-once, once-same, all-m
 -- ---- numbers ----
 
 module _ (home : ℕ) where
-  -- the key of an identity in a list
-  abbrev keyOf : Identity → ℕ
-  keyOf i = key (identified home i)
-
   -- a good identity that is no SNA names a number in range, where the asker's extension is
   identity-narrow : (i : Identity) → wide home ≡ false → badIdentity i ≡ false → eqb (i .form) 0 ≡ false → wideNumber (identified home i) ≡ false
   identity-narrow i w b f = split (eqb (i .form) 2)
@@ -45,10 +41,10 @@ module _ (home : ℕ) where
       extension = or-r (ltb 0 (i .form) && wide (i .ssi)) _ parts
 
   keys-narrow : (l : List Identity) → wide home ≡ false → any badIdentity l ≡ false → any (λ (i : Identity). eqb (i .form) 0) l ≡ false
-      → (x : ℕ) → mem x (map keyOf l) ≡ true → wideKey x ≡ false
+      → (x : ℕ) → mem x (map (identityKey home) l) ≡ true → wideKey x ≡ false
   keys-narrow [] w b f x e = clash (sym e)
-  keys-narrow (i ∷ l) w b f x e = split (eqb x (keyOf i))
-      (λ q. ap wideKey (eqb-true x (keyOf i) q)
+  keys-narrow (i ∷ l) w b f x e = split (eqb x (identityKey home i))
+      (λ q. ap wideKey (eqb-true x (identityKey home i) q)
       ∙ key-narrow (identified home i) (identity-narrow i w (any-no badIdentity i l b .0) (any-no (λ (i : Identity). eqb (i .form) 0) i l f .0)))
       (λ q. keys-narrow l w (any-no badIdentity i l b .1) (any-no (λ (i : Identity). eqb (i .form) 0) i l f .1) x (cc))
 
@@ -60,9 +56,9 @@ module _ (home : ℕ) where
   numbers-narrow (some n) w b u x e =
       keys-narrow (used n) w (or-r (ltb 10 (n .code)) (any badIdentity (used n)) b)
       (or-r (eqb (n .code) 1) (any (λ (i : Identity). eqb (i .form) 0) (used n)) u)
-      x (sym (mem-once x (map keyOf (used n))) ∙ e)
+      x (sym (mem-once x (map (identityKey home) (used n))) ∙ e)
 
-  length-used : (n : ℕ) (l : List Identity) → length (map keyOf (take n l)) ≤ n
+  length-used : (n : ℕ) (l : List Identity) → length (map (identityKey home) (take n l)) ≤ n
   length-used zero l = omega arith
   length-used (suc n) [] = omega arith
   length-used (suc n) (i ∷ l) = let h = length-used n l in omega arith
@@ -73,7 +69,7 @@ module _ (home : ℕ) where
   numbers-few none b = omega arith
   numbers-few (some n) b =
       let h = few (n .code) (ltb-false 10 (n .code) (or-l (ltb 10 (n .code)) (any badIdentity (used n)) b)) in
-      let a = length-once (map keyOf (used n)) in
+      let a = length-once (map (identityKey home) (used n)) in
       let u = length-used (count (n .code)) (n .places) in
       omega arith
     where

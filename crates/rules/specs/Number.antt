@@ -65,9 +65,13 @@ plain home ssi = record { ssi = ssi; extension = home }
 abbrev pub identified : ℕ → Identity → Number
 identified home i = cond (eqb (i .form) 2) (record { ssi = i .ssi; extension = i .extension }) (plain home (i .ssi))
 
+-- and its key
+abbrev pub identityKey : ℕ → Identity → ℕ
+identityKey home i = key (identified home i)
+
 -- the keys of a list: "A number listed twice counts once, at its first place"
 unfoldable pub numbers : ℕ → Numbers → List ℕ
-numbers home n = once (map (λ (i : Identity). key (identified home i)) (used n))
+numbers home n = once (map (identityKey home) (used n))
 
 -- those of a list that may be missing
 abbrev pub numbersIn : ℕ → Option Numbers → List ℕ
