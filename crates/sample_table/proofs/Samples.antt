@@ -13,5 +13,6 @@ use Rattle.rules.specs.Recorded.{numbersAt, parametersIn, defineOf}
 use Rattle.sample_table.specs.Samples.{samples, passes}
 
 pub samples-pass : T (all passes samples)
-unfolding digits value bitsOf pack bytesOf present readRows lay vals emit repeated rowsOf span unrolled spans tableOf rows head read readBytes asReading readingOf write judgedOf writtenOf outputOf key numbers numbersAt parametersIn defineOf passes
+unfolding digits value bitsOf pack bytesOf present readRows lay vals emit repeated rowsOf span unrolled spans tableOf rows head
+    read readBytes asReading readingOf write judgedOf writtenOf outputOf key numbers numbersAt parametersIn defineOf passes
 samples-pass = tt
