@@ -24,18 +24,17 @@ narrow n h = record {
 -- the key of a number in range is in range
 pub key-narrow : (n : Number) → wideNumber n ≡ false → wideKey (key n) ≡ false
 unfolding key
-key-narrow n h = let b = narrow n h in let s = b .ssi in let e = b .extension in
-    lt-leb keyLimit (n .extension * 2 ^ 24 + n .ssi) (omega arith)
+key-narrow n h = let b = narrow n h in let s = b .ssi in let e = b .extension in lt-leb keyLimit (key n) (omega arith)
 
 -- a number is told by its key
 pub number-key : (n : Number) → wideNumber n ≡ false → numberAt (key n) ≡ n
 unfolding key ssiOf extensionOf
 number-key n h = let b = narrow n h in λ i. record { ssi = low (b .ssi) i; extension = high (b .ssi) (b .extension) i }
   where
-    low : n .ssi < 2 ^ 24 → (n .extension * 2 ^ 24 + n .ssi) % 2 ^ 24 ≡ n .ssi
+    low : n .ssi < 2 ^ 24 → ssiOf (key n) ≡ n .ssi
     low s = omega arith
 
-    high : n .ssi < 2 ^ 24 → n .extension < 2 ^ 24 → (n .extension * 2 ^ 24 + n .ssi) / 2 ^ 24 % 2 ^ 24 ≡ n .extension
+    high : n .ssi < 2 ^ 24 → n .extension < 2 ^ 24 → extensionOf (key n) ≡ n .extension
     high s e = omega arith
 
 -- a key's number is in range
