@@ -12,7 +12,7 @@ use replies::Reply;
 use rows::CONFIRMED;
 use rows::GROUP_COUNT;
 use rows::GROUP_WORDS;
-use rows::MAX_LISTED;
+use rows::MAX_NUMBERS;
 use rows::PAIR_COUNT;
 use rows::PAIR_GROUP;
 use rows::PAIR_RADIO;
@@ -70,11 +70,11 @@ pub fn tick(head: &[u64], groups: &[[u64; GROUP_WORDS]], pairs: &mut [[u64; PAIR
     let count = head[PAIR_COUNT];
     let no_groups = Groups {
         count: 0,
-        key: [0; MAX_LISTED],
+        key: [0; MAX_NUMBERS],
     };
     let no_radios = Radios {
         count: 0,
-        key: [0; MAX_LISTED],
+        key: [0; MAX_NUMBERS],
     };
     turn_pairs(pairs, count as usize, Turn::Tick, no_groups, no_radios);
     Reply::Done

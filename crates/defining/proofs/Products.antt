@@ -9,6 +9,7 @@ use lib.Dec.{ltb}
 use lib.ListN.{length, getD, length-append, length-map, List·getD-append}
 use lib.Seq.{getD-append-add}
 use borrow.Author.Tests.{ltb-true, ltb-false}
+use Rattle.rules.specs.Number.{maxNumbers}
 use Rattle.rules.specs.Ledger.{Pair}
 use Rattle.rules.specs.ByNumber.{belowPair}
 use Rattle.rules.specs.Steps.{product}
@@ -103,7 +104,7 @@ key-at gs rs j width g r w a b h =
     let b′ : r ≡ getD rs (j % length rs) 0 = b ∙ ap (λ (x : ℕ). getD rs (j % x) 0) w in
     (λ i. (a′ i, b′ i)) ∙ sym (product-at gs rs j h)
 
--- a hundred pairs at most
-pub few-product : (groups : Groups) (radios : Radios) → length (groups .key) ≡ 10 → length (radios .key) ≡ 10
-    → length (groupKeys groups) * length (radioKeys radios) ≤ 10 * 10
+-- no more pairs than the lists have places for
+pub few-product : (groups : Groups) (radios : Radios) → length (groups .key) ≡ maxNumbers → length (radios .key) ≡ maxNumbers
+    → length (groupKeys groups) * length (radioKeys radios) ≤ maxNumbers * maxNumbers
 few-product groups radios n m = mul-le-mul (few-groups groups n) (few-radios radios m)

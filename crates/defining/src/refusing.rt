@@ -30,13 +30,14 @@ use store::places::pair_place;
 use store::places::stands;
 use table::place::YES;
 use table::place::define::CALL_RELATED;
-ghost use Prim.Native.Nat.{_≤_};
+ghost use Prim.Native.Nat.{_*_, _≤_};
 ghost use lib.Dec.{ltb};
 ghost use lib.ListN.{length};
 ghost use mathlib.Core.Bool.{true};
 ghost use mathlib.Core.Path.{_≡_};
 ghost use Rattle.rules.specs.ByNumber.{lower, belowPair};
 ghost use Rattle.rules.specs.Lists.{rises};
+ghost use Rattle.rules.specs.Number.{maxNumbers};
 ghost use Rattle.rules.specs.Recorded.{defineOf};
 ghost use Rattle.rules.specs.Refusals.{maxGroups, maxPairs, first, refuses};
 ghost use Rattle.order.specs.Numbers.{radioNumber};
@@ -87,7 +88,7 @@ fn new_radios(pairs: &[[u64; PAIR_WORDS]], count: usize, group: GroupKey, radios
 // How many of the named pairs are not there yet.
 pub fn new_pairs(pairs: &[[u64; PAIR_WORDS]], count: usize, named: Groups, radios: Radios) -> usize
     requires { ⌜ (count ≤ length (now pairs)) × (rises (lower belowPair) (pairsOf count (now pairs)) ≡ true) ⌝ }
-    ensures { λ r. ⌜ (r ≡ newPairs (pairsOf count (now (pairs .entry))) (radioKeys radios) (groupKeys named)) × (r ≤ 100) ⌝ }
+    ensures { λ r. ⌜ (r ≡ newPairs (pairsOf count (now (pairs .entry))) (radioKeys radios) (groupKeys named)) × (r ≤ maxNumbers * maxNumbers) ⌝ }
 {
     let end = group_count(named);
     let mut n: usize = 0;

@@ -7,6 +7,7 @@ use native.Mathlib.Numerals.{add-one}
 use native.Mathlib.Omega.{arith}
 use lib.ListN.{length, getD, set, take, drop, length-append, length-map, length-drop, List·getD-map}
 use lib.Seq.{paste, take-suc, take-at, take-take, length-take-le, getD-drop, getD-take}
+use Rattle.rules.specs.Number.{maxNumbers}
 use Rattle.rules.specs.Lists.{keep, present}
 use Rattle.rules.specs.Entries.{find}
 use Rattle.rules.specs.Mark.{Mark}
@@ -102,7 +103,7 @@ module _ (count : ℕ) (rows : Rows) (w : Stretches count rows) (g : ℕ) where
       }
 
   -- a group has no more radios than there are pairs
-  pub leaving-few : (leave listed : Bool) (radios : List ℕ) → length radios ≤ 10
+  pub leaving-few : (leave listed : Bool) (radios : List ℕ) → length radios ≤ maxNumbers
       → length (leaving leave listed radios (pairsOf count rows) g) ≤ maxPairs
   leaving-few false listed radios h = omega arith
   leaving-few true true radios h = omega (arith, h, among-few (pairsOf count rows) g radios)

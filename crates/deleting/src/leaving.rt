@@ -4,7 +4,7 @@ use order::RadioKey;
 use order::Radios;
 use order::keys::radio_at;
 use order::keys::radio_count;
-use rows::MAX_LISTED;
+use rows::MAX_NUMBERS;
 use rows::ORDER_WORDS;
 use rows::PAIR_RADIO;
 use rows::PAIR_WORDS;
@@ -65,7 +65,7 @@ pub fn count_leaving(
         return 0;
     }
     if listed {
-        let mut room = [0u64; MAX_LISTED];
+        let mut room = [0u64; MAX_NUMBERS];
         return found_among(pairs, count, group, radios, &mut room);
     }
     let stretch = stretch_of(pairs, count, group);
@@ -114,7 +114,7 @@ pub fn push_leaving(
         return 0;
     }
     if listed {
-        let mut room = [0u64; MAX_LISTED];
+        let mut room = [0u64; MAX_NUMBERS];
         let n = found_among(pairs, count, group, radios, &mut room);
         push_orders(out, at, DEASSIGN, group, &room[..n]);
         return n;

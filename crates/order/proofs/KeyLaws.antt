@@ -5,6 +5,7 @@ use mathlib.Core.List.{List}
 use native.Mathlib.Omega.{arith}
 use lib.ListN.{length, take, replicate, length-take}
 use lib.Seq.{take-append-seam}
+use Rattle.rules.specs.Number.{maxNumbers}
 use Rattle.rules.specs.Lists.{inOrder}
 use Rattle.rules.proofs.ListLaws.{length-order}
 use Rattle.order.specs.Keys.{placed, keysAs, groupsAs, radiosAs, ownersAs, groupKeys, radioKeys, ownersHeld}
@@ -23,10 +24,10 @@ radio-keys l = take-append-seam l _
 pub owners-held : (l : List ℕ) → ownersHeld (ownersAs l) ≡ l
 owners-held l = take-append-seam l _
 
-pub few-groups : (g : Groups) → length (g .key) ≡ 10 → length (groupKeys g) ≤ 10
+pub few-groups : (g : Groups) → length (g .key) ≡ maxNumbers → length (groupKeys g) ≤ maxNumbers
 few-groups g n = omega (arith, length-take (g .count) (g .key))
 
-pub few-radios : (r : Radios) → length (r .key) ≡ 10 → length (radioKeys r) ≤ 10
+pub few-radios : (r : Radios) → length (r .key) ≡ maxNumbers → length (radioKeys r) ≤ maxNumbers
 few-radios r n = omega (arith, length-take (r .count) (r .key))
 
 -- the same for keys that are on their way, with their count

@@ -2,8 +2,8 @@
 use Prim.Native.Nat.{ℕ}
 use mathlib.Core.List.{List}
 use lib.ListN.{length, take, replicate}
+use Rattle.rules.specs.Number.{maxNumbers}
 use Rattle.rules.specs.Written.{maxOwners}
-use Rattle.rows.specs.Layout.{maxListed}
 use Rattle.order.specs.Walks.{onto}
 use Rattle.order.specs.declared.KeyList.{KeyList}
 use Rattle.order.specs.declared.Groups.{Groups}
@@ -15,13 +15,13 @@ abbrev pub placed : ℕ → List ℕ → List ℕ
 placed n keys = onto keys (replicate n 0)
 
 abbrev pub keysAs : List ℕ → KeyList
-keysAs keys = record { count = length keys; key = placed maxListed keys }
+keysAs keys = record { count = length keys; key = placed maxNumbers keys }
 
 abbrev pub groupsAs : List ℕ → Groups
-groupsAs keys = record { count = length keys; key = placed maxListed keys }
+groupsAs keys = record { count = length keys; key = placed maxNumbers keys }
 
 abbrev pub radiosAs : List ℕ → Radios
-radiosAs keys = record { count = length keys; key = placed maxListed keys }
+radiosAs keys = record { count = length keys; key = placed maxNumbers keys }
 
 abbrev pub ownersAs : List ℕ → Owners
 ownersAs keys = record { count = length keys; key = placed maxOwners keys }

@@ -14,6 +14,7 @@ use crate::lists::member;
 use crate::lists::used_count;
 use crate::rising::put_rising;
 use rows::MAX_LISTED;
+use rows::MAX_NUMBERS;
 use rows::MAX_OWNERS;
 use rows::lesser;
 ghost use Prim.Native.Nat.{_≤_};
@@ -23,8 +24,7 @@ ghost use mathlib.Core.Bool.{not};
 ghost use mathlib.Core.List.{[], _∷_};
 ghost use mathlib.Core.Path.{_≡_};
 ghost use Rattle.rules.specs.Lists.{keep, inOrder, rising};
-ghost use Rattle.rules.specs.Number.{key, plain, ssiOf, extensionOf, identityKey, numbers, numbersIn};
-ghost use Rattle.rows.specs.Layout.{maxListed};
+ghost use Rattle.rules.specs.Number.{key, plain, ssiOf, extensionOf, identityKey, maxNumbers, numbers, numbersIn};
 ghost use Rattle.order.specs.Keys.{keysAs, groupsAs, radiosAs, ownersAs, groupKeys, radioKeys, ownersHeld};
 ghost use Rattle.order.specs.Lists.{identityOf, numbersAs, listOf};
 ghost use Rattle.order.specs.Numbers.{radioNumber, groupNumber, radioAt, groupAt, askedGroup};
@@ -106,7 +106,7 @@ fn keys_of(home: u32, code: u32, identity: [Identity; MAX_LISTED]) -> KeyList
     ensures { λ r. ⌜ r ≡ keysAs (numbers home (numbersAs code identity)) ⌝ }
 {
     let used = used_count(code);
-    let mut keys = [0u64; MAX_LISTED];
+    let mut keys = [0u64; MAX_NUMBERS];
     let mut count: usize = 0;
     let mut i: usize = 0;
     while i < used {
@@ -131,7 +131,7 @@ fn keys_in(home: u32, list: Listed) -> KeyList
     }
     KeyList {
         count: 0,
-        key: [0; MAX_LISTED],
+        key: [0; MAX_NUMBERS],
     }
 }
 
@@ -163,14 +163,14 @@ pub fn radios_in(asker: Itsi, list: Listed) -> Radios
 pub fn group_count(groups: Groups) -> usize
     ensures { λ r. ⌜ r ≡ length (groupKeys groups) ⌝ }
 {
-    lesser(groups.count, MAX_LISTED)
+    lesser(groups.count, MAX_NUMBERS)
 }
 
 // How many radios a list has.
 pub fn radio_count(radios: Radios) -> usize
     ensures { λ r. ⌜ r ≡ length (radioKeys radios) ⌝ }
 {
-    lesser(radios.count, MAX_LISTED)
+    lesser(radios.count, MAX_NUMBERS)
 }
 
 // A group of a list, key 0 past its end.
@@ -201,7 +201,7 @@ pub fn groups_rising(groups: Groups) -> Groups
 {
     let named = groups.key;
     let count = group_count(groups);
-    let mut key = [0u64; MAX_LISTED];
+    let mut key = [0u64; MAX_NUMBERS];
     put_rising(&named[..count], &mut key);
     Groups { count, key }
 }
@@ -212,14 +212,14 @@ pub fn radios_rising(radios: Radios) -> Radios
 {
     let named = radios.key;
     let count = radio_count(radios);
-    let mut key = [0u64; MAX_LISTED];
+    let mut key = [0u64; MAX_NUMBERS];
     put_rising(&named[..count], &mut key);
     Radios { count, key }
 }
 
 // The asker, then the keys that differ from him.
 fn with_asker(asker: RadioKey, listed: &[u64]) -> Owners
-    requires { ⌜ length (now listed) ≤ maxListed ⌝ }
+    requires { ⌜ length (now listed) ≤ maxNumbers ⌝ }
     ensures { λ r. ⌜ r ≡ ownersAs (asker .0 ∷ keep (λ y. not (eqb (asker .0) y)) (now (listed .entry))) ⌝ }
 {
     let mut key = [0u64; MAX_OWNERS];

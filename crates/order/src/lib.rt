@@ -7,6 +7,7 @@ pub mod row;
 mod values;
 
 use rows::MAX_LISTED;
+use rows::MAX_NUMBERS;
 use rows::MAX_OWNERS;
 
 // A group's number, as it is handed over: SSI and extension. 24 bits of each are good; 32 are held, so that no key of theirs can wrap.
@@ -57,19 +58,19 @@ pub struct DefineLists {
 // The keys of a list, each once; the words past them are 0.
 struct KeyList {
     count: usize,
-    key: [u64; MAX_LISTED],
+    key: [u64; MAX_NUMBERS],
 }
 
 // The groups that an order names: keys, each once; the words past them are 0.
 pub struct Groups {
     pub count: usize,
-    pub key: [u64; MAX_LISTED],
+    pub key: [u64; MAX_NUMBERS],
 }
 
 // The radios that an order names, likewise.
 pub struct Radios {
     pub count: usize,
-    pub key: [u64; MAX_LISTED],
+    pub key: [u64; MAX_NUMBERS],
 }
 
 // The owners that an order gives: the asker and those of its list, each once, rising; the words past them are 0.

@@ -4,7 +4,7 @@
 ghost use Prim.Native.Nat.{min};
 ghost use mathlib.Core.Path.{_≡_};
 
-// The most groups and pairs, the most owners of a group, letters of its name and numbers of a list.
+// The most groups and pairs, the most owners of a group, letters of its name, identities of a list and numbers that it names.
 pub const MAX_GROUPS: usize = 320;
 
 pub const MAX_PAIRS: usize = 2048;
@@ -14,6 +14,8 @@ pub const MAX_OWNERS: usize = 11;
 pub const MAX_LETTERS: usize = 16;
 
 pub const MAX_LISTED: usize = 10;
+
+pub const MAX_NUMBERS: usize = 10;
 
 // The words of the head, of a group's row and of a pair's row; of an outgoing order and of a listed radio.
 pub const HEAD_WORDS: usize = 2;

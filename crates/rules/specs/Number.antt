@@ -73,6 +73,10 @@ identityKey home i = key (identified home i)
 unfoldable pub numbers : ℕ → Numbers → List ℕ
 numbers home n = once (map (identityKey home) (used n))
 
+-- the most that a list may name
+abbrev pub maxNumbers : ℕ
+maxNumbers = 10
+
 -- those of a list that may be missing
 abbrev pub numbersIn : ℕ → Option Numbers → List ℕ
 numbersIn home none = []

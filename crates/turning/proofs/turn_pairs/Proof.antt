@@ -4,6 +4,7 @@ use native.Mathlib.Omega.{arith}
 use Prim.Native.Nat.{_≤_}
 use lib.ListN.{length}
 use lib.Seq.{length-take-le}
+use Rattle.rules.specs.Number.{maxNumbers}
 use Rattle.turning.proofs.Fronts.{front, whole}
 use Rattle.order.proofs.KeyLaws.{few-groups, few-radios}
 use borrow.Author.Needs.{needs}
@@ -21,7 +22,7 @@ radio-count-requires c κs = search needs
 
 array-share-prefix-group-key : tie.Need-array-share-prefix-group-key
 array-share-prefix-group-key c =
-    let n : length (c .before .before .before .before .before .before .args .groups .key) ≡ 10 = search needs in
+    let n : length (c .before .before .before .before .before .before .args .groups .key) ≡ maxNumbers = search needs in
     let h = few-groups (c .before .before .before .before .before .before .args .groups) n in
     let few : c .before .before .before .group-count .result ≤ length (c .before .before .before .before .before .before .args .groups .key) = omega
     (arith, n, h, c .before .before .before .group-count .ensures) in
@@ -30,14 +31,14 @@ array-share-prefix-group-key c =
 slice-aggregate-turn-rows : tie.Need-slice-aggregate-turn-rows
 slice-aggregate-turn-rows c =
     let a = c .before .before .before .before .before .before .before .args in
-    let n : length (a .groups .key) ≡ 10 = search needs in
+    let n : length (a .groups .key) ≡ maxNumbers = search needs in
     let h = few-groups (a .groups) n in
     sym (length-take-le (c .before .before .before .before .group-count .result) (a .groups .key)
     (omega (arith, n, h, c .before .before .before .before .group-count .ensures)))
 
 array-share-prefix-radio-key : tie.Need-array-share-prefix-radio-key
 array-share-prefix-radio-key c =
-    let n : length (c .before .before .before .before .before .before .before .args .radios .key) ≡ 10 = search needs in
+    let n : length (c .before .before .before .before .before .before .before .args .radios .key) ≡ maxNumbers = search needs in
     let h = few-radios (c .before .before .before .before .before .before .before .args .radios) n in
     let few : c .before .before .radio-count .result ≤ length (c .before .before .before .before .before .before .before .args .radios .key) = omega
     (arith, n, h, c .before .before .radio-count .ensures) in
@@ -46,7 +47,7 @@ array-share-prefix-radio-key c =
 slice-aggregate-turn-rows-2 : tie.Need-slice-aggregate-turn-rows-2
 slice-aggregate-turn-rows-2 c =
     let a = c .before .before .before .before .before .before .before .before .args in
-    let n : length (a .radios .key) ≡ 10 = search needs in
+    let n : length (a .radios .key) ≡ maxNumbers = search needs in
     let h = few-radios (a .radios) n in
     sym (length-take-le (c .before .before .before .radio-count .result) (a .radios .key)
     (omega (arith, n, h, c .before .before .before .radio-count .ensures)))

@@ -2,6 +2,7 @@
 use mathlib.Core.Path.{_≡_, refl, ap, _∙_}
 use lib.ListN.{length}
 use native.Mathlib.Omega.{arith}
+use Rattle.rules.specs.Number.{maxNumbers}
 use Rattle.rules.specs.Lists.{inOrder}
 use Rattle.order.specs.Keys.{groupKeys, radioKeys}
 use Rattle.order.proofs.KeyLaws.{few-groups, group-keys, radio-keys}
@@ -23,9 +24,9 @@ entry c = c .before .before .before .before .before .before .before .before
 abbrev rising : tie.After-radios-rising → tie.After-groups-rising
 rising c = c .before .before .before .before .before
 
--- the named groups have room for ten
-ten : (s : tie.Start) → length (s .args .named .key) ≡ 10
-ten s = search needs
+-- the places for the named groups
+room : (s : tie.Start) → length (s .args .named .key) ≡ maxNumbers
+room s = search needs
 
 -- the groups, rising, and the radios
 these : (c : tie.After-groups-rising) → groupKeys (c .groups-rising .result) ≡ inOrder (groupKeys (entry c .args .named))
@@ -86,7 +87,7 @@ add-head : tie.Need-add-head
 add-head c =
     let g = rising (c .before .before) in
     let s = entry g in
-    omega (arith, s .pre .sound .fewGroups, g .before .before .before .new-groups .ensures .1, few-groups (s .args .named) (ten s))
+    omega (arith, s .pre .sound .fewGroups, g .before .before .before .new-groups .ensures .1, few-groups (s .args .named) (room s))
 
 slice-write-head : tie.Need-slice-write-head
 slice-write-head c = search needs

@@ -3,6 +3,7 @@ use mathlib.Core.Path.{_≡_, sym}
 use native.Mathlib.Omega.{arith}
 use lib.ListN.{length}
 use borrow.Author.Tests.{not-true, not-false}
+use Rattle.rules.specs.Number.{maxNumbers}
 use Rattle.order.proofs.KeyLaws.{few-radios}
 use Rattle.deleting.proofs.LeavingLaws.{Spans, spans}
 use borrow.Author.Needs.{needs}
@@ -25,7 +26,7 @@ slice-aggregate-found-among c = search needs
 found-among-requires : tie.Need-found-among-requires
 found-among-requires c κs =
     let entry = c .before .before .before in
-    let n : length (entry .args .radios .key) ≡ 10 = search needs in
+    let n : length (entry .args .radios .key) ≡ maxNumbers = search needs in
     (entry .pre, omega (arith, few-radios (entry .args .radios) n))
 
 returns-2 : tie.Need-returns-2

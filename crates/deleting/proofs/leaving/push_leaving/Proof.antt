@@ -6,6 +6,7 @@ use mathlib.Core.List.{List, []}
 use lib.ListN.{length}
 use lib.Seq.{paste, paste-zero, length-take-le}
 use borrow.Author.Tests.{not-true, not-false}
+use Rattle.rules.specs.Number.{maxNumbers}
 use Rattle.order.specs.Keys.{radioKeys}
 use Rattle.order.proofs.KeyLaws.{few-radios}
 use Rattle.store.specs.Storage.{pairsOf}
@@ -19,14 +20,14 @@ use Rattle.deleting.proofs.leaving.push_leaving.Tie as tie
 abbrev room : (c : tie.After-found-among) → List ℕ
 room c = c .found-among .last .1 .1 .1 .1 .0
 
-few : (c : tie.After-found-among) → c .found-among .result ≤ 10
+few : (c : tie.After-found-among) → c .found-among .result ≤ maxNumbers
 few c =
     let a = c .before .before .before .before .args in
-    let n : length (a .radios .key) ≡ 10 = search needs in
+    let n : length (a .radios .key) ≡ maxNumbers = search needs in
     omega (arith, c .found-among .ensures .0, among-few (pairsOf (a .count) (a .pairs .now)) (a .group .0) (radioKeys (a .radios)), few-radios (a .radios) n)
 
 room-holds : (c : tie.After-found-among) → c .found-among .result ≤ length (room c)
-room-holds c = let n : length (room c) ≡ 10 = search needs in omega (arith, n, few c)
+room-holds c = let n : length (room c) ≡ maxNumbers = search needs in omega (arith, n, few c)
 
 -- the group's stretch
 stretch : (c : tie.After-stretch-of) → let a = c .before .before .before .args in Spans (a .count) (a .pairs .now) (a .group .0) (c .stretch-of .result)
@@ -46,7 +47,7 @@ slice-aggregate-found-among c = search needs
 found-among-requires : tie.Need-found-among-requires
 found-among-requires c κs =
     let entry = c .before .before .before in
-    let n : length (entry .args .radios .key) ≡ 10 = search needs in
+    let n : length (entry .args .radios .key) ≡ maxNumbers = search needs in
     (entry .pre .0, omega (arith, few-radios (entry .args .radios) n))
 
 array-share-prefix-room : tie.Need-array-share-prefix-room

@@ -5,6 +5,7 @@ use Prim.Native.Nat.{_≤_}
 use lib.ListN.{length}
 use lib.Seq.{length-take-le}
 use borrow.Author.Tests.{not-true, not-false}
+use Rattle.rules.specs.Number.{maxNumbers}
 use Rattle.order.proofs.KeyLaws.{few-groups}
 use Rattle.store.specs.Storage.{groupOf, groupRow}
 use Rattle.store.proofs.Rows.{length-items, lay-plain}
@@ -16,7 +17,7 @@ use Rattle.deleting.proofs.remaining.delete_groups.Tie as tie
 -- there are no more groups than keys
 few : (c : tie.After-group-count) → c .group-count .result ≤ length (c .before .before .before .args .named .key)
 few c =
-    let n : length (c .before .before .before .args .named .key) ≡ 10 = search needs in
+    let n : length (c .before .before .before .args .named .key) ≡ maxNumbers = search needs in
     let h = few-groups (c .before .before .before .args .named) n in
     omega (arith, n, h, c .group-count .ensures)
 

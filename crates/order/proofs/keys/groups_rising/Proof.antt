@@ -2,6 +2,7 @@
 use native.Mathlib.Omega.{arith}
 use mathlib.Core.Path.{_≡_}
 use lib.ListN.{length, length-take}
+use Rattle.rules.specs.Number.{maxNumbers}
 use Rattle.order.proofs.KeyLaws.{cut-fits, cut-length, cut-sorted}
 use borrow.Author.Needs.{needs}
 use Rattle.order.proofs.keys.groups_rising.Statement.{statement}
@@ -22,13 +23,13 @@ slice-aggregate-put-rising-2 c = search needs
 put-rising-requires : tie.Need-put-rising-requires
 put-rising-requires c κs =
     let g = c .before .before .before .before .args .groups in
-    let n : length (g .key) ≡ 10 = search needs in
+    let n : length (g .key) ≡ maxNumbers = search needs in
     omega (arith, length-take (c .before .before .group-count .result) (g .key))
 
 returns : tie.Need-returns
 returns c =
     let g = c .before .before .before .before .before .before .args .groups in
-    let w = cut-sorted (g .key) (g .count) _ (c .before .before .before .before .group-count .ensures) 10 _ (c .before .put-rising .ensures) in
+    let w = cut-sorted (g .key) (g .count) _ (c .before .before .before .before .group-count .ensures) maxNumbers _ (c .before .put-rising .ensures) in
     λ i. record { count = w .0 i; key = w .1 i }
 
 pub groups-rising-spec : {M : Type 1} → statement M

@@ -3,6 +3,7 @@ use mathlib.Core.Path.{_≡_}
 use lib.ListN.{length, length-take}
 use native.Mathlib.Omega.{arith}
 use borrow.Author.Needs.{needs}
+use Rattle.rules.specs.Number.{maxNumbers}
 use Rattle.order.proofs.keys.radio_count.Statement.{statement}
 use Rattle.order.proofs.keys.radio_count.Tie as tie
 
@@ -12,7 +13,7 @@ lesser-requires c κs = search needs
 returns : tie.Need-returns
 returns c =
     let g = c .before .args .radios in
-    let n : length (g .key) ≡ 10 = search needs in
+    let n : length (g .key) ≡ maxNumbers = search needs in
     omega (arith, c .lesser .ensures, length-take (g .count) (g .key))
 
 pub radio-count-spec : {M : Type 1} → statement M
