@@ -1,7 +1,9 @@
--- The number of each refusal, as document 01's table gives it.
+-- The number of each refusal, as the table of document 01 and the requests of document 02 give it.
 use Prim.Native.Nat.{ℕ}
 use Rattle.refusal.specs.declared.Refusal.{Refusal}
-use Rattle.refusal.specs.declared.Refusal.the-variants.{EndsInside, BitsRemain, WrongKind, Reserved, NoGroup, NothingFollows, TypeThree, NoSpace, BadLine, BadOrder, FormNotTaken, NoSuchGroup, NotOwner, NotOpen, NothingToDo, Full, NoRoom, NotWritten}
+use Rattle.refusal.specs.declared.Refusal.the-variants.{EndsInside, BitsRemain, WrongKind, Reserved, NoGroup, NothingFollows, TypeThree}
+use Rattle.refusal.specs.declared.Refusal.the-variants.{NoSpace, BadLine, BadOrder, FormNotTaken, NoSuchGroup, NotOwner, NotOpen, NothingToDo}
+use Rattle.refusal.specs.declared.Refusal.the-variants.{Full, NoRoom, NotWritten, BadRange, TooManyNumbers}
 
 abbrev pub numberOf : Refusal → ℕ
 numberOf EndsInside = 1
@@ -22,3 +24,5 @@ numberOf NothingToDo = 15
 numberOf Full = 16
 numberOf NoRoom = 17
 numberOf NotWritten = 18
+numberOf BadRange = 19
+numberOf TooManyNumbers = 20

@@ -39,6 +39,10 @@ pub enum Refusal {
     NoRoom,
     // Ledger: the lent ledger is not in its written form.
     NotWritten,
+    // Ledger: a range whose first is above its last, or whose ends differ in their extension.
+    BadRange,
+    // Ledger: a list of too many numbers.
+    TooManyNumbers,
 }
 
 // The number of a refusal.
@@ -64,5 +68,7 @@ pub fn number(r: Refusal) -> u8
         Refusal::Full => 16,
         Refusal::NoRoom => 17,
         Refusal::NotWritten => 18,
+        Refusal::BadRange => 19,
+        Refusal::TooManyNumbers => 20,
     }
 }

@@ -4,7 +4,7 @@
 ghost use Prim.Native.Nat.{min};
 ghost use mathlib.Core.Path.{_≡_};
 
-// The most groups and pairs, the most owners of a group, letters of its name, identities of a list and numbers that it names.
+// The most groups and pairs; owners of a group, letters of its name; identities of a list, and numbers and owners that a list may name.
 pub const MAX_GROUPS: usize = 320;
 
 pub const MAX_PAIRS: usize = 2048;
@@ -15,7 +15,9 @@ pub const MAX_LETTERS: usize = 16;
 
 pub const MAX_LISTED: usize = 10;
 
-pub const MAX_NUMBERS: usize = 10;
+pub const MAX_NUMBERS: usize = 64;
+
+pub const MAX_LISTED_OWNERS: usize = 10;
 
 // The words of the head, of a group's row and of a pair's row; of an outgoing order and of a listed radio.
 pub const HEAD_WORDS: usize = 2;

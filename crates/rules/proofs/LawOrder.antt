@@ -1,20 +1,24 @@
--- The tests of every order stand in the law's order: their refusal numbers rise.
+-- The tests of every order stand in the law's order: their numbers are those of the law's order that the order has, one after another.
 use Prim.Native.Nat.{ℕ}
 use mathlib.Core.Path.{_≡_, refl}
 use mathlib.Core.Bool.{Bool}
 use mathlib.Core.List.{List, map}
 use Rattle.refusal.specs.Number.{numberOf}
 use Rattle.refusal.specs.declared.Refusal.{Refusal}
-use Rattle.rules.specs.Lists.{rising}
+use Rattle.rules.specs.Lists.{keep, mem}
 use Rattle.rules.specs.Number.{Number}
 use Rattle.rules.specs.Order.{Step, define, delete, answer, tick}
 use Rattle.rules.specs.World.{World, Tally}
-use Rattle.rules.specs.Refusals.{tests, listTests}
+use Rattle.rules.specs.Refusals.{lawOrder, tests, listTests}
 
 abbrev numbersOf : List (Refusal × Bool) → List ℕ
 numbersOf l = map (λ (t : Refusal × Bool). numberOf (t .0)) l
 
-pub tests-rise : (w : World) (t : Tally) (s : Step) → rising (numbersOf (tests w t s)) ≡ numbersOf (tests w t s)
+-- so many of the law's order as a list has
+abbrev inLawOrder : List ℕ → List ℕ
+inLawOrder l = keep (λ n. mem n l) lawOrder
+
+pub tests-rise : (w : World) (t : Tally) (s : Step) → numbersOf (tests w t s) ≡ inLawOrder (numbersOf (tests w t s))
 tests-rise w t (define o room) = refl
 tests-rise w t (delete o room) = refl
 tests-rise w t (answer a) = refl
@@ -22,5 +26,5 @@ tests-rise w t tick = refl
 
 -- a show's tests are the first of a list's
 pub list-tests-rise : (w : World) (asker g : Number) (radios : List ℕ) (room : ℕ)
-    → rising (numbersOf (listTests w asker g radios room)) ≡ numbersOf (listTests w asker g radios room)
+    → numbersOf (listTests w asker g radios room) ≡ inLawOrder (numbersOf (listTests w asker g radios room))
 list-tests-rise w asker g radios room = refl

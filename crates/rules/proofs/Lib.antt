@@ -13,6 +13,7 @@ pub mod Effects
 pub mod Totals
 pub mod Agree
 pub mod Keys
+pub mod Consecutive
 pub mod Ranges
 pub mod Written
 pub mod Listing

@@ -1,5 +1,5 @@
 -- What passed the tests of BadOrder and FormNotTaken is within the ranges of the written form.
-use Prim.Native.Nat.{ℕ, zero, suc, _+_, _≤_, _<_}
+use Prim.Native.Nat.{ℕ, suc, _+_, _-_, _≤_, _<_}
 use mathlib.Core.Path.{_≡_, refl, sym, _∙_, ap}
 use mathlib.Core.Bool.{Bool, true, false, not, _&&_, _||_}
 use mathlib.Core.List.{List, [], _∷_, map}
@@ -7,17 +7,18 @@ use mathlib.Core.Option.{Option, none, some}
 use lib.Dec.{eqb, ltb, leb}
 use lib.ListN.{length, take}
 use native.Mathlib.Omega.{arith}
-use borrow.Author.Tests.{eqb-true, eqb-false, ltb-false, leb-false, le-leb, lt-ltb}
+use borrow.Author.Tests.{eqb-true, eqb-false, leb-false, le-leb, lt-leb, lt-ltb}
 use Rattle.rules.specs.Lists.{any, mem, once}
-use Rattle.rules.specs.Number.{Identity, Numbers, count, used, identified, identityKey, numbers, numbersIn}
-use Rattle.rules.specs.Number.{wide, wideNumber, wideKey, badIdentity, badList, untaken}
+use Rattle.rules.specs.Number.{Identity, Numbers, used, identified, identityKey, range, spelled, numbers, numbersIn}
+use Rattle.rules.specs.Number.{wide, wideNumber, keyLimit, wideKey, badIdentity, badList, untaken, maxListedOwners}
 use Rattle.rules.specs.Parameters.{Parameters, over, replaced, tooLarge, badName, badParameters}
 use Rattle.rules.specs.Mark.{Mark, waiting, T1, begun, ticked}
 use Rattle.rules.specs.Placing.{Placing, Lawful}
 use Rattle.rules.specs.Written.{goodOwners, maxOwners, goodMark}
 use Rattle.rules.proofs.Tests.{split, clash, and-in, or-in, or-l, or-r, not-in}
 use Rattle.rules.proofs.Keys.{key-narrow}
-use Rattle.rules.proofs.ListLaws.{mem-once, once-once, once-same, all-mem, length-once, any-no}
+use Rattle.rules.proofs.Consecutive.{consecutive-mem}
+use Rattle.rules.proofs.ListLaws.{eqb-same, mem-once, once-once, once-same, all-mem, length-once, any-no}
 
 -- ---- numbers ----
 
@@ -48,38 +49,38 @@ module _ (home : ℕ) where
       ∙ key-narrow (identified home i) (identity-narrow i w (any-no badIdentity i l b .0) (any-no (λ (i : Identity). eqb (i .form) 0) i l f .0)))
       (λ q. keys-narrow l w (any-no badIdentity i l b .1) (any-no (λ (i : Identity). eqb (i .form) 0) i l f .1) x (cc))
 
+  last-in : (a b c : Bool) → b ≡ true → (a || (b || c)) ≡ true
+  last-in true b c e = refl
+  last-in false b c e = cc
+
+  -- no key of a range is above its last
+  range-narrow : (l : List ℕ) → ((x : ℕ) → mem x l ≡ true → wideKey x ≡ false) → (x : ℕ) → mem x (range l) ≡ true → wideKey x ≡ false
+  range-narrow [] h x e = clash (sym e)
+  range-narrow (first ∷ []) h x e = clash (sym e)
+  range-narrow (first ∷ last ∷ more) h x e =
+      let low = leb-false keyLimit last (h last (last-in (eqb last first) (eqb last last) (mem last more) (eqb-same last))) in
+      let within = consecutive-mem first (suc last - first) x e in
+      lt-leb keyLimit x (omega arith)
+
   -- a list that passed both has numbers in range
   pub numbers-narrow : (n : Option Numbers) → wide home ≡ false → badList n ≡ false → untaken n ≡ false
       → (x : ℕ) → mem x (numbersIn home n) ≡ true → wideKey x ≡ false
   unfolding numbers
   numbers-narrow none w b u x e = clash (sym e)
-  numbers-narrow (some n) w b u x e =
-      keys-narrow (used n) w (or-r (ltb 10 (n .code)) (any badIdentity (used n)) b)
-      (or-r (eqb (n .code) 1) (any (λ (i : Identity). eqb (i .form) 0) (used n)) u)
-      x (sym (mem-once x (map (identityKey home) (used n))) ∙ e)
-
-  length-used : (n : ℕ) (l : List Identity) → length (map (identityKey home) (take n l)) ≤ n
-  length-used zero l = omega arith
-  length-used (suc n) [] = omega arith
-  length-used (suc n) (i ∷ l) = let h = length-used n l in omega arith
-
-  -- a list that passed has at most ten numbers
-  pub numbers-few : (n : Option Numbers) → badList n ≡ false → length (numbersIn home n) ≤ 10
-  unfolding numbers
-  numbers-few none b = omega arith
-  numbers-few (some n) b =
-      let h = few (n .code) (ltb-false 10 (n .code) (or-l (ltb 10 (n .code)) (any badIdentity (used n)) b)) in
-      let a = length-once (map (identityKey home) (used n)) in
-      let u = length-used (count (n .code)) (n .places) in
-      omega arith
+  numbers-narrow (some n) w b u x e = split (eqb (n .code) 1)
+      (λ q. range-narrow keys each x (cc (mem-once x (spelled (n .code) keys))))
+      (λ q. each x (cc (mem-once x (spelled (n .code) keys))))
     where
-      few : (c : ℕ) → c ≤ 10 → count c ≤ 10
-      few c h = split (eqb c 0) (λ e. rw e (omega arith)) (λ e. rw e (split (eqb c 1) (λ f. rw f (omega arith)) (λ f. rw f h)))
+      keys : List ℕ
+      keys = map (identityKey home) (used n)
+
+      each : (x : ℕ) → mem x keys ≡ true → wideKey x ≡ false
+      each = keys-narrow (used n) w (or-r (ltb 10 (n .code)) (any badIdentity (used n)) b) u
 
 -- ---- owners ----
 
--- the asker and at most ten others, entered by a lawful placing
-pub owners-good : (p : Placing) → Lawful p → (asker : ℕ) (l : List ℕ) → wideKey asker ≡ false → length l ≤ 10
+-- the asker and as many others as may be listed, entered by a lawful placing
+pub owners-good : (p : Placing) → Lawful p → (asker : ℕ) (l : List ℕ) → wideKey asker ≡ false → length l ≤ maxListedOwners
     → ((x : ℕ) → mem x l ≡ true → wideKey x ≡ false) → goodOwners p (p .owners .entered (once (asker ∷ l))) ≡ true
 owners-good p laws asker l a h n =
     and-in (lt-ltb 0 (length os) (omega (arith, counts)))

@@ -9,7 +9,7 @@ use lib.ListN.{length}
 use borrow.Author.Tests.{eqb-true}
 use Rattle.rules.specs.Lists.{keep, present, sum}
 use Rattle.rules.specs.Entries.{find}
-use Rattle.rules.specs.Number.{Numbers, used, identityKey, numbers, numbersIn}
+use Rattle.rules.specs.Number.{Numbers, used, identityKey, spelled, numbers, numbersIn}
 use Rattle.rules.specs.Mark.{Mark, begun}
 use Rattle.rules.specs.Order.{Define, define, defineGroups, defineRadios}
 use Rattle.rules.specs.Effect.{Effect, effect}
@@ -26,7 +26,7 @@ use Rattle.rules.proofs.Effects.{Standing}
 pub numbers-once : (home : ℕ) (n : Option Numbers) → Once (numbersIn home n)
 unfolding numbers
 numbers-once home none = tt
-numbers-once home (some n) = once-once (map (identityKey home) (used n))
+numbers-once home (some n) = once-once (spelled (n .code) (map (identityKey home) (used n)))
 
 module _ (p : Placing) (laws : Lawful p) (l : Ledger) (s : Standing p l) (o : Define) (room : ℕ) where
   abbrev e : Effect

@@ -10,7 +10,7 @@ use borrow.Author.Tests.{eqb-true, ltb-false, leb-true, le-leb, not-true}
 use Rattle.refusal.specs.declared.Refusal.{Refusal}
 use Rattle.rules.specs.Lists.{any, all, present, turned, mem}
 use Rattle.rules.specs.Entries.{find}
-use Rattle.rules.specs.Number.{key, wide, wideNumber, wideKey, badList, untaken, numbersIn}
+use Rattle.rules.specs.Number.{key, wide, wideNumber, wideKey, badList, untaken, badRange, maxNumbers, maxListedOwners, tooMany, numbersIn}
 use Rattle.rules.specs.Parameters.{noParameters, replaced, badParameters}
 use Rattle.rules.specs.Mark.{Mark, fresh, confirmed, ticked}
 use Rattle.rules.specs.Order.{Define, Delete, Answer, Step, define, delete, answer, tick, defineGroups, deleteGroups, leaves}
@@ -29,7 +29,7 @@ use Rattle.rules.proofs.EntryLaws.{found-all, all-found, length-alter}
 use Rattle.rules.proofs.Pairs.{pair-sound, pair-itself}
 use Rattle.rules.proofs.Effects.{Standing, groups-single, pairs-single, standing-apply, group-after, mark-after}
 use Rattle.rules.proofs.Keys.{key-narrow}
-use Rattle.rules.proofs.Ranges.{numbers-narrow, numbers-few, owners-good, replaced-good, begun-good, ticked-good}
+use Rattle.rules.proofs.Ranges.{numbers-narrow, owners-good, replaced-good, begun-good, ticked-good}
 
 -- ---- the form, by what is found ----
 
@@ -207,7 +207,12 @@ module _ (p : Placing) (laws : Lawful p) where
       let l′ = apply p l (effect (view l) (define o room)) in
       let bad = passed _ (wideNumber (o .asker) || (refuses (o .judged) || badValues o)) _ e in
       let form = passed _ (o .call || (untaken (o .groups) || (untaken (o .owners) || untaken (o .radios)))) _ (bad .1) in
-      let owned = passed _ (any (λ g. view l .stands g && not (view l .owner g (key (o .asker)))) (defineGroups o)) _ (form .1) in
+      let x = o .asker .extension in
+      let range = passed _ (badRange x (o .groups) || (badRange x (o .owners) || badRange x (o .radios))) _ (form .1) in
+      let manyOwners = tooMany maxListedOwners x (o .owners) in
+      let many = passed _ (tooMany maxNumbers x (o .groups) || (manyOwners || tooMany maxNumbers x (o .radios))) _ (range .1) in
+      let fewOwners = or-l manyOwners (tooMany maxNumbers x (o .radios)) (or-r (tooMany maxNumbers x (o .groups)) _ (many .0)) in
+      let owned = passed _ (any (λ g. view l .stands g && not (view l .owner g (key (o .asker)))) (defineGroups o)) _ (many .1) in
       let manyGroups = ltb maxGroups (length (l′ .groups)) in
       let manyPairs = ltb maxPairs (length (l′ .pairs)) in
       let full = passed _ (manyGroups || manyPairs) _ (owned .1) in
@@ -221,15 +226,15 @@ module _ (p : Placing) (laws : Lawful p) where
       let badOwners = or-l (badList (o .owners)) (badList (o .radios) || badParameters (o .parameters)) b₂ in
       record {
         makes = λ g k. (
-          numbers-narrow (o .asker .extension) (o .groups) home
+          numbers-narrow x (o .groups) home
               (or-l (badList (o .groups)) (badList (o .owners) || (badList (o .radios) || badParameters (o .parameters))) b₁)
               (or-l (untaken (o .groups)) (untaken (o .owners) || untaken (o .radios)) u₁) g k,
-          owners-good p laws (key (o .asker)) (numbersIn (o .asker .extension) (o .owners)) (key-narrow (o .asker) asker)
-              (numbers-few (o .asker .extension) (o .owners) badOwners)
-              (numbers-narrow (o .asker .extension) (o .owners) home badOwners (or-l (untaken (o .owners)) (untaken (o .radios)) u₂)),
+          owners-good p laws (key (o .asker)) (numbersIn x (o .owners)) (key-narrow (o .asker) asker)
+              (ltb-false maxListedOwners (length (numbersIn x (o .owners))) fewOwners)
+              (numbers-narrow x (o .owners) home badOwners (or-l (untaken (o .owners)) (untaken (o .radios)) u₂)),
         );
         parameters = or-r (badList (o .radios)) (badParameters (o .parameters)) b₃;
-        assigns = numbers-narrow (o .asker .extension) (o .radios) home (or-l (badList (o .radios)) (badParameters (o .parameters)) b₃)
+        assigns = numbers-narrow x (o .radios) home (or-l (badList (o .radios)) (badParameters (o .parameters)) b₃)
             (or-r (untaken (o .owners)) (untaken (o .radios)) u₂);
         begins = begun-good (o .acknowledgement);
         turns = λ g r m m′ h k. let q : m ≡ m′ = cc in sym (ap goodMark q) ∙ h;

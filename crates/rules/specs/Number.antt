@@ -1,10 +1,10 @@
 -- Numbers as an order carries them: identities and lists of identities; and the key by which the ledger knows a number.
-use Prim.Native.Nat.{ℕ, _+_, _*_, _/_, _%_, _^_}
-use mathlib.Core.Bool.{Bool, false, cond, _&&_, _||_}
-use mathlib.Core.List.{List, [], map}
+use Prim.Native.Nat.{ℕ, zero, suc, _+_, _-_, _*_, _/_, _%_, _^_}
+use mathlib.Core.Bool.{Bool, false, cond, not, _&&_, _||_}
+use mathlib.Core.List.{List, [], _∷_, map}
 use mathlib.Core.Option.{Option, none, some}
 use lib.Dec.{eqb, ltb, leb}
-use lib.ListN.{take}
+use lib.ListN.{length, take}
 use Rattle.rules.specs.Lists.{any, once}
 
 -- a number as it is handed over; the extension is country and network code
@@ -69,13 +69,24 @@ identified home i = cond (eqb (i .form) 2) (record { ssi = i .ssi; extension = i
 abbrev pub identityKey : ℕ → Identity → ℕ
 identityKey home i = key (identified home i)
 
+-- so many keys in a row, from the first on
+abbrev pub consecutive : ℕ → ℕ → List ℕ
+consecutive first zero = []
+consecutive first (suc n) = first ∷ consecutive (suc first) n
+
+-- a range, by its "first and last: both ends count, in rising order"
+abbrev pub range : List ℕ → List ℕ
+range [] = []
+range (first ∷ []) = []
+range (first ∷ last ∷ more) = consecutive first (suc last - first)
+
+-- what a list says of its keys: number type 1 names all of a range, any other the keys themselves
+abbrev pub spelled : ℕ → List ℕ → List ℕ
+spelled code keys = cond (eqb code 1) (range keys) keys
+
 -- the keys of a list: "A number listed twice counts once, at its first place"
 unfoldable pub numbers : ℕ → Numbers → List ℕ
-numbers home n = once (map (identityKey home) (used n))
-
--- the most that a list may name
-abbrev pub maxNumbers : ℕ
-maxNumbers = 10
+numbers home n = once (spelled (n .code) (map (identityKey home) (used n)))
 
 -- those of a list that may be missing
 abbrev pub numbersIn : ℕ → Option Numbers → List ℕ
@@ -109,7 +120,28 @@ abbrev pub badList : Option Numbers → Bool
 badList none = false
 badList (some n) = ltb 10 (n .code) || any badIdentity (used n)
 
--- a form not taken: a range, or an SNA
+-- a form not taken: an SNA
 abbrev pub untaken : Option Numbers → Bool
 untaken none = false
-untaken (some n) = eqb (n .code) 1 || any (λ (i : Identity). eqb (i .form) 0) (used n)
+untaken (some n) = any (λ (i : Identity). eqb (i .form) 0) (used n)
+
+-- "first above last or extensions differ"
+abbrev pub crossed : List Number → Bool
+crossed [] = false
+crossed (first ∷ []) = false
+crossed (first ∷ last ∷ more) = ltb (last .ssi) (first .ssi) || not (eqb (first .extension) (last .extension))
+
+abbrev pub badRange : ℕ → Option Numbers → Bool
+badRange home none = false
+badRange home (some n) = eqb (n .code) 1 && crossed (map (identified home) (used n))
+
+-- "At most 64 numbers for groups and radios, 10 for owners"
+abbrev pub maxNumbers : ℕ
+maxNumbers = 64
+
+abbrev pub maxListedOwners : ℕ
+maxListedOwners = 10
+
+-- "too many numbers"
+abbrev pub tooMany : ℕ → ℕ → Option Numbers → Bool
+tooMany most home l = ltb most (length (numbersIn home l))

@@ -8,16 +8,21 @@ use lib.Dec.{eqb, ltb}
 use lib.ListN.{length}
 use Rattle.refusal.specs.Number.{numberOf}
 use Rattle.refusal.specs.declared.Refusal.{Refusal}
-use Rattle.refusal.specs.declared.Refusal.the-variants.{BadOrder, FormNotTaken, NoSuchGroup, NotOwner, NotOpen, NothingToDo, Full, NoRoom}
+use Rattle.refusal.specs.declared.Refusal.the-variants.{BadOrder, FormNotTaken, BadRange, TooManyNumbers, NoSuchGroup, NotOwner}
+use Rattle.refusal.specs.declared.Refusal.the-variants.{NotOpen, NothingToDo, Full, NoRoom}
 use Rattle.layout.specs.declared.Judged.{Judged}
 use Rattle.layout.specs.declared.Judged.the-variants.{Writable, Refused}
 use Rattle.rules.specs.Lists.{any, present}
-use Rattle.rules.specs.Number.{Number, key, wideNumber, badList, untaken}
+use Rattle.rules.specs.Number.{Number, key, wideNumber, badList, untaken, badRange, maxNumbers, maxListedOwners, tooMany}
 use Rattle.rules.specs.Parameters.{badParameters}
 use Rattle.rules.specs.Mark.{open?}
 use Rattle.rules.specs.Order.{Define, Step, define, delete, answer, tick, defineGroups, deleteGroups}
 use Rattle.rules.specs.World.{World, Tally}
 use Rattle.rules.specs.Outgoing.{outgoing}
+
+-- the order in which refusals are looked for, by their numbers: that of document 01, and of document 02 "both after 11, 19 before 20"
+abbrev pub lawOrder : List ℕ
+lawOrder = 18 ∷ 10 ∷ 11 ∷ 19 ∷ 20 ∷ 12 ∷ 13 ∷ 14 ∷ 15 ∷ 16 ∷ 17 ∷ []
 
 -- the first refusal whose test holds; none where the order is accepted
 abbrev pub first : List (Refusal × Bool) → Option Refusal
@@ -52,15 +57,21 @@ badValues o = badList (o .groups) || (badList (o .owners) || (badList (o .radios
 
 abbrev pub tests : World → Tally → Step → List (Refusal × Bool)
 tests w t (define o room) =
+    let home = o .asker .extension in
     (BadOrder, wideNumber (o .asker) || (refuses (o .judged) || badValues o))
     ∷ (FormNotTaken, o .call || (untaken (o .groups) || (untaken (o .owners) || untaken (o .radios))))
+    ∷ (BadRange, badRange home (o .groups) || (badRange home (o .owners) || badRange home (o .radios)))
+    ∷ (TooManyNumbers, tooMany maxNumbers home (o .groups) || (tooMany maxListedOwners home (o .owners) || tooMany maxNumbers home (o .radios)))
     ∷ (NotOwner, any (λ g. w .stands g && not (w .owner g (key (o .asker)))) (defineGroups o))
     ∷ (Full, ltb maxGroups (t .groups) || ltb maxPairs (t .pairs))
     ∷ (NoRoom, ltb room (length (outgoing w t (define o room))))
     ∷ []
 tests w t (delete o room) =
+    let home = o .asker .extension in
     (BadOrder, wideNumber (o .asker) || (badList (some (o .groups)) || (badList (o .radios) || (present (o .radios) && not (o .deassign)))))
     ∷ (FormNotTaken, untaken (some (o .groups)) || untaken (o .radios))
+    ∷ (BadRange, badRange home (some (o .groups)) || badRange home (o .radios))
+    ∷ (TooManyNumbers, tooMany maxNumbers home (some (o .groups)) || tooMany maxNumbers home (o .radios))
     ∷ (NoSuchGroup, any (λ g. not (w .stands g)) (deleteGroups o))
     ∷ (NotOwner, any (λ g. not (w .owner g (key (o .asker)))) (deleteGroups o))
     ∷ (NothingToDo, not (o .delete) && not (o .deassign))
