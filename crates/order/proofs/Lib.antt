@@ -4,6 +4,7 @@ pub mod Moves
 pub mod Sorting
 pub mod ListLaws
 pub mod KeyLaws
+pub mod RangeLaws
 pub mod Words
 pub mod Named
 pub mod Recorded

@@ -14,6 +14,12 @@ use Rattle.order.proofs.lists.bad_list.Kinds as bad-list-kinds
 use Rattle.order.proofs.lists.bad_list.Reads as bad-list
 use Rattle.order.proofs.lists.untaken.Kinds as untaken-kinds
 use Rattle.order.proofs.lists.untaken.Reads as untaken
+use Rattle.order.proofs.ranges.bad_range.Kinds as bad-range-kinds
+use Rattle.order.proofs.ranges.bad_range.Reads as bad-range
+use Rattle.order.proofs.ranges.too_many.Kinds as too-many-kinds
+use Rattle.order.proofs.ranges.too_many.Reads as too-many
+use Rattle.order.proofs.ranges.too_many_owners.Kinds as too-many-owners-kinds
+use Rattle.order.proofs.ranges.too_many_owners.Reads as too-many-owners
 use Rattle.order.proofs.keys.group_key.Kinds as group-key-kinds
 use Rattle.order.proofs.keys.group_key.Reads as group-key
 use Rattle.order.proofs.keys.radio_key.Kinds as radio-key-kinds
@@ -24,6 +30,10 @@ use Rattle.order.proofs.keys.radio_of.Kinds as radio-of-kinds
 use Rattle.order.proofs.keys.radio_of.Reads as radio-of
 use Rattle.order.proofs.keys.asked_group.Kinds as asked-group-kinds
 use Rattle.order.proofs.keys.asked_group.Reads as asked-group
+use Rattle.order.proofs.keys.extension_in.Kinds as extension-in-kinds
+use Rattle.order.proofs.keys.extension_in.Reads as extension-in
+use Rattle.order.proofs.keys.identity_key.Kinds as identity-key-kinds
+use Rattle.order.proofs.keys.identity_key.Reads as identity-key
 use Rattle.order.proofs.keys.groups_in.Kinds as groups-in-kinds
 use Rattle.order.proofs.keys.groups_in.Reads as groups-in
 use Rattle.order.proofs.keys.radios_in.Kinds as radios-in-kinds
@@ -67,6 +77,15 @@ bad-list-unique κs a r r′ s s′ p q = p ∙ sym q
 pub untaken-unique : Unique untaken-kinds.ps untaken-kinds.r untaken.Post
 untaken-unique κs a r r′ s s′ p q = p ∙ sym q
 
+pub bad-range-unique : Unique bad-range-kinds.ps bad-range-kinds.r bad-range.Post
+bad-range-unique κs a r r′ s s′ p q = p ∙ sym q
+
+pub too-many-unique : Unique too-many-kinds.ps too-many-kinds.r too-many.Post
+too-many-unique κs a r r′ s s′ p q = p ∙ sym q
+
+pub too-many-owners-unique : Unique too-many-owners-kinds.ps too-many-owners-kinds.r too-many-owners.Post
+too-many-owners-unique κs a r r′ s s′ p q = p ∙ sym q
+
 pub group-key-unique : Unique group-key-kinds.ps group-key-kinds.r group-key.Post
 group-key-unique κs a r r′ s s′ p q = λ i. record { 0 = (p ∙ sym q) i }
 
@@ -81,6 +100,12 @@ radio-of-unique κs a r r′ s s′ p q = p ∙ sym q
 
 pub asked-group-unique : Unique asked-group-kinds.ps asked-group-kinds.r asked-group.Post
 asked-group-unique κs a r r′ s s′ p q = p ∙ sym q
+
+pub extension-in-unique : Unique extension-in-kinds.ps extension-in-kinds.r extension-in.Post
+extension-in-unique κs a r r′ s s′ p q = p ∙ sym q
+
+pub identity-key-unique : Unique identity-key-kinds.ps identity-key-kinds.r identity-key.Post
+identity-key-unique κs a r r′ s s′ p q = p ∙ sym q
 
 pub groups-in-unique : Unique groups-in-kinds.ps groups-in-kinds.r groups-in.Post
 groups-in-unique κs a r r′ s s′ p q = p ∙ sym q

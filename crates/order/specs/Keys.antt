@@ -1,6 +1,8 @@
--- The keys of an order's lists, as they are handed on: how many, and they, in ten places (eleven for owners); the words past them are 0.
+-- The keys of an order's lists, as they are handed on: how many, and they, in 64 places (eleven for owners); the words past them are 0.
 use Prim.Native.Nat.{ℕ}
-use mathlib.Core.List.{List}
+use mathlib.Core.Bool.{cond}
+use mathlib.Core.List.{List, []}
+use lib.Dec.{ltb}
 use lib.ListN.{length, take, replicate}
 use Rattle.rules.specs.Number.{maxNumbers}
 use Rattle.rules.specs.Written.{maxOwners}
@@ -9,6 +11,10 @@ use Rattle.order.specs.declared.KeyList.{KeyList}
 use Rattle.order.specs.declared.Groups.{Groups}
 use Rattle.order.specs.declared.Radios.{Radios}
 use Rattle.order.specs.declared.Owners.{Owners}
+
+-- all keys of a list, or none where they are more than may be: such a list is refused, and its keys are not made
+abbrev pub fitting : ℕ → List ℕ → List ℕ
+fitting most keys = cond (ltb most (length keys)) [] keys
 
 -- keys in n places
 abbrev pub placed : ℕ → List ℕ → List ℕ

@@ -5,15 +5,13 @@ use crate::Groups;
 use crate::Gtsi;
 use crate::Identity;
 use crate::Itsi;
-use crate::KeyList;
 use crate::Listed;
 use crate::Owners;
 use crate::RadioKey;
 use crate::Radios;
-use crate::lists::member;
-use crate::lists::used_count;
 use crate::rising::put_rising;
-use rows::MAX_LISTED;
+use crate::spelling::keys_in;
+use rows::MAX_LISTED_OWNERS;
 use rows::MAX_NUMBERS;
 use rows::MAX_OWNERS;
 use rows::lesser;
@@ -24,9 +22,9 @@ ghost use mathlib.Core.Bool.{not};
 ghost use mathlib.Core.List.{[], _∷_};
 ghost use mathlib.Core.Path.{_≡_};
 ghost use Rattle.rules.specs.Lists.{keep, inOrder, rising};
-ghost use Rattle.rules.specs.Number.{key, plain, ssiOf, extensionOf, identityKey, maxNumbers, numbers, numbersIn};
-ghost use Rattle.order.specs.Keys.{keysAs, groupsAs, radiosAs, ownersAs, groupKeys, radioKeys, ownersHeld};
-ghost use Rattle.order.specs.Lists.{identityOf, numbersAs, listOf};
+ghost use Rattle.rules.specs.Number.{key, plain, ssiOf, extensionOf, identified, identityKey, numbersIn, maxNumbers, maxListedOwners};
+ghost use Rattle.order.specs.Keys.{fitting, groupsAs, radiosAs, ownersAs, groupKeys, radioKeys, ownersHeld};
+ghost use Rattle.order.specs.Lists.{identityOf, listOf};
 ghost use Rattle.order.specs.Numbers.{radioNumber, groupNumber, radioAt, groupAt, askedGroup};
 
 // The keys of one extension.
@@ -91,55 +89,28 @@ pub fn asked_group(asker: Itsi, asked: GroupAsked) -> Gtsi
     }
 }
 
-// The key of the number that an identity of a list names; `home` is the asker's extension, which a plain SSI takes.
-fn identity_key(identity: Identity, home: u32) -> u64
-    ensures { λ r. ⌜ r ≡ identityKey home (identityOf identity) ⌝ }
+// The extension of the number that an identity names; `home` is the asker's, which a plain SSI takes.
+pub fn extension_in(identity: Identity, home: u32) -> u32
+    ensures { λ r. ⌜ r ≡ identified home (identityOf identity) .extension ⌝ }
 {
     if identity.form == 2 {
-        return key(identity.ssi, identity.extension);
+        return identity.extension;
     }
-    key(identity.ssi, home)
+    home
 }
 
-// The keys of a list, each once, at its first place; `home` is the asker's extension.
-fn keys_of(home: u32, code: u32, identity: [Identity; MAX_LISTED]) -> KeyList
-    ensures { λ r. ⌜ r ≡ keysAs (numbers home (numbersAs code identity)) ⌝ }
+// The key of that number.
+pub fn identity_key(identity: Identity, home: u32) -> u64
+    ensures { λ r. ⌜ r ≡ identityKey home (identityOf identity) ⌝ }
 {
-    let used = used_count(code);
-    let mut keys = [0u64; MAX_NUMBERS];
-    let mut count: usize = 0;
-    let mut i: usize = 0;
-    while i < used {
-        let x = identity_key(identity[i], home);
-        i += 1;
-        if !member(&keys[..count], x) {
-            keys[count] = x;
-            count += 1;
-        }
-    }
-    KeyList { count, key: keys }
+    key(identity.ssi, extension_in(identity, home))
 }
 
-// The keys of a list, none where it is not given.
-fn keys_in(home: u32, list: Listed) -> KeyList
-    ensures { λ r. ⌜ r ≡ keysAs (numbersIn home (listOf list)) ⌝ }
-{
-    if list.given {
-        let numbers = list.numbers;
-        let identity = numbers.identity;
-        return keys_of(home, numbers.code, identity);
-    }
-    KeyList {
-        count: 0,
-        key: [0; MAX_NUMBERS],
-    }
-}
-
-// The groups of a list, none where it is not given.
+// The groups of a list; none where it is not given, or names too many.
 pub fn groups_in(asker: Itsi, list: Listed) -> Groups
-    ensures { λ r. ⌜ r ≡ groupsAs (numbersIn (asker .1) (listOf list)) ⌝ }
+    ensures { λ r. ⌜ r ≡ groupsAs (fitting maxNumbers (numbersIn (asker .1) (listOf list))) ⌝ }
 {
-    let keys = keys_in(asker.1, list);
+    let keys = keys_in(asker.1, list, MAX_NUMBERS);
     let key = keys.key;
     Groups {
         count: keys.count,
@@ -147,11 +118,11 @@ pub fn groups_in(asker: Itsi, list: Listed) -> Groups
     }
 }
 
-// The radios of a list, none where it is not given.
+// The radios of a list, likewise.
 pub fn radios_in(asker: Itsi, list: Listed) -> Radios
-    ensures { λ r. ⌜ r ≡ radiosAs (numbersIn (asker .1) (listOf list)) ⌝ }
+    ensures { λ r. ⌜ r ≡ radiosAs (fitting maxNumbers (numbersIn (asker .1) (listOf list))) ⌝ }
 {
-    let keys = keys_in(asker.1, list);
+    let keys = keys_in(asker.1, list, MAX_NUMBERS);
     let key = keys.key;
     Radios {
         count: keys.count,
@@ -219,7 +190,7 @@ pub fn radios_rising(radios: Radios) -> Radios
 
 // The asker, then the keys that differ from him.
 fn with_asker(asker: RadioKey, listed: &[u64]) -> Owners
-    requires { ⌜ length (now listed) ≤ maxNumbers ⌝ }
+    requires { ⌜ length (now listed) ≤ maxListedOwners ⌝ }
     ensures { λ r. ⌜ r ≡ ownersAs (asker .0 ∷ keep (λ y. not (eqb (asker .0) y)) (now (listed .entry))) ⌝ }
 {
     let mut key = [0u64; MAX_OWNERS];
@@ -248,11 +219,11 @@ fn owners_rising(owners: Owners) -> Owners
     Owners { count, key }
 }
 
-// The owners that an order gives, rising: "asker plus those listed".
+// The owners that an order gives, rising: "asker plus those listed"; the asker alone where too many are.
 pub fn owners_in(asker: Itsi, list: Listed) -> Owners
-    ensures { λ r. ⌜ r ≡ ownersAs (rising (key (radioNumber asker) ∷ numbersIn (asker .1) (listOf list))) ⌝ }
+    ensures { λ r. ⌜ r ≡ ownersAs (rising (key (radioNumber asker) ∷ fitting maxListedOwners (numbersIn (asker .1) (listOf list)))) ⌝ }
 {
-    let keys = keys_in(asker.1, list);
+    let keys = keys_in(asker.1, list, MAX_LISTED_OWNERS);
     let count = keys.count;
     let key = keys.key;
     owners_rising(with_asker(radio_key(asker), &key[..count]))

@@ -1,9 +1,11 @@
 // An order as it is handed over: its lists, and what a DEFINE record says. Numbers are handed over unjudged; behind stand keys.
 pub mod keys;
 pub mod lists;
+pub mod ranges;
 pub mod record;
 mod rising;
 pub mod row;
+mod spelling;
 mod values;
 
 use rows::MAX_LISTED;

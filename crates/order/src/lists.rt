@@ -108,14 +108,14 @@ pub fn bad_list(list: Listed) -> bool
     false
 }
 
-// A form not taken: a range, or an SNA.
+// A form not taken: an SNA.
 pub fn untaken(list: Listed) -> bool
     ensures { λ r. ⌜ r ≡ untaken (listOf list) ⌝ }
 {
     if list.given {
         let numbers = list.numbers;
         let identity = numbers.identity;
-        return (numbers.code == 1) | any_faulty(numbers.code, identity, Fault::Short);
+        return any_faulty(numbers.code, identity, Fault::Short);
     }
     false
 }
