@@ -10,7 +10,7 @@ use Rattle.refusal.specs.declared.Refusal.{Refusal}
 use Rattle.rules.specs.Lists.{present, mem, join}
 use Rattle.rules.specs.Entries.{alter}
 use Rattle.rules.specs.Mark.{Mark}
-use Rattle.rules.specs.Number.{key, numbersIn}
+use Rattle.rules.specs.Number.{key, numbersIn, tooMany, maxNumbers}
 use Rattle.rules.specs.Order.{Step}
 use Rattle.rules.specs.Effect.{effect}
 use Rattle.rules.specs.Outgoing.{deassign, orders, outgoing}
@@ -19,7 +19,10 @@ use Rattle.rules.specs.Ledger.{Group, Pair, view, members}
 use Rattle.rules.specs.Steps.{tally, apply, refused}
 use Rattle.rules.proofs.Walks.{alter-all}
 use Rattle.rules.proofs.Listing.{stretch-members}
+use Rattle.rules.proofs.Tests.{or-l, or-r}
 use Rattle.order.specs.Numbers.{radioNumber}
+use Rattle.order.specs.Keys.{fitting}
+use Rattle.order.proofs.RangeLaws.{passed-whole}
 use Rattle.order.specs.Lists.{numbersOf, listOf}
 use Rattle.order.specs.Steps.{deleteStep}
 use Rattle.order.specs.declared.Itsi.{Itsi}
@@ -90,13 +93,36 @@ module _ (c : Contents) (w : Sound c) where
     pub stand-replies : (r : Reply) → Done ≡ replyOf (first forms) → r ≡ replyOf (first stands) → r ≡ replyOf (verdict c step)
     stand-replies r e q = q ∙ rw (w .form) (ap replyOf (sym (ap first delete-tests ∙ first-none forms stands (reply-none (first forms) e))))
 
+    -- whether a list names too many
+    abbrev manyGroups : Bool
+    manyGroups = tooMany maxNumbers (asker .1) (listOf named)
+
+    abbrev manyRadios : Bool
+    manyRadios = tooMany maxNumbers (asker .1) (listOf radios)
+
+    -- lists that name no more than may be are handed on whole
+    whole : (manyGroups || manyRadios) ≡ false → (fitting maxNumbers gs ≡ gs) × (fitting maxNumbers rs ≡ rs)
+    whole few = (
+      passed-whole maxNumbers (asker .1) (listOf named) (or-l manyGroups manyRadios few),
+      passed-whole maxNumbers (asker .1) (listOf radios) (or-r manyGroups manyRadios few),
+    )
+
+    -- so are those of a delete whose form is taken, and of one that is taken
+    pub form-whole : first forms ≡ none → (fitting maxNumbers gs ≡ gs) × (fitting maxNumbers rs ≡ rs)
+    form-whole e = whole (tests-pass forms e 3)
+
+    pub taken-whole : refused placing (ledgerOf c) step ≡ none → (fitting maxNumbers gs ≡ gs) × (fitting maxNumbers rs ≡ rs)
+    taken-whole e =
+        let few = tests-pass (tests (view (ledgerOf c)) (tally placing (ledgerOf c) (effect (view (ledgerOf c)) step)) step) e 3 in
+        whole (rw given few)
+
     -- a delete that is taken has something to do, and room for its orders
     pub delete-passed : refused placing (ledgerOf c) step ≡ none
         → ((not remove && not deassign) ≡ false)
         × (length (leavingOrders deassign (radios .given) rs (ledgerOf c .pairs) gs) ≤ room)
     delete-passed e =
         let l = tests (view (ledgerOf c)) (tally placing (ledgerOf c) (effect (view (ledgerOf c)) step)) step in
-        (tests-pass l e 4, rw (← delete-sends) (ltb-false room _ (tests-pass l e 5)))
+        (tests-pass l e 6, rw (← delete-sends) (ltb-false room _ (tests-pass l e 7)))
 
 -- ---- what is left ----
 

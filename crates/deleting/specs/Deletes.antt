@@ -5,11 +5,12 @@ use mathlib.Core.List.{List, [], _∷_}
 use lib.Dec.{eqb, ltb}
 use lib.ListN.{length}
 use Rattle.refusal.specs.declared.Refusal.{Refusal}
-use Rattle.refusal.specs.declared.Refusal.the-variants.{BadOrder, FormNotTaken, NoSuchGroup, NotOwner, NothingToDo, NoRoom}
+use Rattle.refusal.specs.declared.Refusal.the-variants.{BadOrder, FormNotTaken, BadRange, TooManyNumbers, NoSuchGroup, NotOwner}
+use Rattle.refusal.specs.declared.Refusal.the-variants.{NothingToDo, NoRoom}
 use Rattle.rules.specs.Lists.{any}
 use Rattle.rules.specs.Entries.{find, alter}
 use Rattle.rules.specs.Mark.{Mark}
-use Rattle.rules.specs.Number.{wideNumber, badList, untaken}
+use Rattle.rules.specs.Number.{wideNumber, badList, untaken, badRange, tooMany, maxNumbers}
 use Rattle.rules.specs.Ledger.{Group, Pair}
 use Rattle.order.specs.Numbers.{radioNumber}
 use Rattle.order.specs.Lists.{listOf}
@@ -27,6 +28,8 @@ abbrev pub formTests : Itsi → Listed → Bool → Listed → List (Refusal × 
 formTests asker groups deassign radios =
     (BadOrder, wideNumber (radioNumber asker) || (badList (listOf groups) || (badList (listOf radios) || (radios .given && not deassign))))
     ∷ (FormNotTaken, untaken (listOf groups) || untaken (listOf radios))
+    ∷ (BadRange, badRange (asker .1) (listOf groups) || badRange (asker .1) (listOf radios))
+    ∷ (TooManyNumbers, tooMany maxNumbers (asker .1) (listOf groups) || tooMany maxNumbers (asker .1) (listOf radios))
     ∷ []
 
 -- and those of what stands, by the asker's key

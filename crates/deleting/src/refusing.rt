@@ -9,6 +9,8 @@ use order::keys::radio_key;
 use order::lists::bad_list;
 use order::lists::untaken;
 use order::lists::wide_radio;
+use order::ranges::bad_range;
+use order::ranges::too_many;
 use refusal::Refusal;
 use replies::Reply;
 use rows::GROUP_COUNT;
@@ -23,9 +25,9 @@ ghost use mathlib.Core.Bool.{true};
 ghost use mathlib.Core.Path.{_≡_};
 ghost use Rattle.rules.specs.ByNumber.{lower};
 ghost use Rattle.rules.specs.Lists.{rises};
-ghost use Rattle.rules.specs.Number.{numbersIn};
+ghost use Rattle.rules.specs.Number.{numbersIn, maxNumbers};
 ghost use Rattle.rules.specs.Refusals.{first};
-ghost use Rattle.order.specs.Keys.{groupsAs, radiosAs, groupKeys, radioKeys};
+ghost use Rattle.order.specs.Keys.{fitting, groupsAs, radiosAs, groupKeys, radioKeys};
 ghost use Rattle.order.specs.Lists.{listOf};
 ghost use Rattle.order.specs.Steps.{deleteStep};
 ghost use Rattle.store.specs.Storage.{contents, pairsOf, groupsOf};
@@ -45,6 +47,14 @@ fn form_fault(asker: Itsi, named: Listed, deassign: bool, radios: Listed) -> Rep
     let other = untaken(named) | untaken(radios);
     if other {
         return Reply::Refused(Refusal::FormNotTaken);
+    }
+    let crossed = bad_range(asker, named) | bad_range(asker, radios);
+    if crossed {
+        return Reply::Refused(Refusal::BadRange);
+    }
+    let many = too_many(asker, named) | too_many(asker, radios);
+    if many {
+        return Reply::Refused(Refusal::TooManyNumbers);
     }
     Reply::Done
 }
@@ -97,8 +107,8 @@ pub fn delete_fault(
     those: Radios,
     room: usize,
 ) -> Reply
-    requires { ⌜ (named .given ≡ true) × (these ≡ groupsAs (numbersIn (asker .1) (listOf named)))
-        × (those ≡ radiosAs (numbersIn (asker .1) (listOf radios))) ⌝ }
+    requires { ⌜ (named .given ≡ true) × (these ≡ groupsAs (fitting maxNumbers (numbersIn (asker .1) (listOf named))))
+        × (those ≡ radiosAs (fitting maxNumbers (numbersIn (asker .1) (listOf radios)))) ⌝ }
     ensures { λ r. ⌜ Judges (contents (now (head .entry)) (now (groups .entry)) (now (pairs .entry)))
         (deleteStep asker (named .numbers) remove deassign radios room) r ⌝ }
 {

@@ -3,13 +3,13 @@ use Prim.Native.Nat.{ℕ, suc, _-_, _≤_, _<_}
 use mathlib.Core.Path.{_≡_, refl, sym, ap, _∙_}
 use mathlib.Core.Bool.{Bool, true, false, _&&_}
 use mathlib.Core.List.{List, [], _∷_, map}
-use mathlib.Core.Option.{some}
+use mathlib.Core.Option.{Option, some}
 use native.Mathlib.Omega.{arith}
 use lib.Dec.{eqb, ltb, leb}
 use lib.ListN.{length, getD, length-map, length-take}
 use borrow.Author.Tests.{eqb-true, ltb-false, leb-true, leb-false, lt-ltb, le-ltb}
 use Rattle.rules.specs.Lists.{once}
-use Rattle.rules.specs.Number.{count, used, identified, identityKey, consecutive, range, spelled, numbers, crossed, badRange, tooMany}
+use Rattle.rules.specs.Number.{count, used, identified, identityKey, consecutive, range, spelled, numbers, numbersIn, crossed, badRange, tooMany}
 use Rattle.rules.specs.Number as number
 use Rattle.rules.proofs.Tests.{split}
 use Rattle.rules.proofs.ListLaws.{Once, length-once}
@@ -34,6 +34,10 @@ fitting-all most l h = rw (le-ltb most (length l) h)
 
 pub fitting-none : (most : ℕ) (l : List ℕ) → most < length l → fitting most l ≡ []
 fitting-none most l h = rw (lt-ltb most (length l) h)
+
+-- a list that passed the test is handed on whole
+pub passed-whole : (most home : ℕ) (l : Option number.Numbers) → tooMany most home l ≡ false → fitting most (numbersIn home l) ≡ numbersIn home l
+passed-whole most home l e = rw e
 
 pub fitting-few : (most : ℕ) (l : List ℕ) → length (fitting most l) ≤ most
 fitting-few most l = split (ltb most (length l)) (λ e. rw e (omega arith)) (λ e. let few = ltb-false most (length l) e in rw e few)
