@@ -8,11 +8,11 @@ use lib.Dec.{eqb, ltb}
 use lib.ListN.{length}
 use borrow.Author.Tests.{ltb-false}
 use Rattle.refusal.specs.declared.Refusal.{Refusal}
-use Rattle.refusal.specs.declared.Refusal.the-variants.{BadOrder, FormNotTaken, NotOwner, Full, NoRoom}
+use Rattle.refusal.specs.declared.Refusal.the-variants.{BadOrder, FormNotTaken, BadRange, TooManyNumbers, NotOwner, Full, NoRoom}
 use Rattle.layout.specs.Frame.{places}
 use Rattle.rules.specs.Lists.{any, rising}
 use Rattle.rules.specs.Entries.{find}
-use Rattle.rules.specs.Number.{key, wideNumber, badList}
+use Rattle.rules.specs.Number.{key, numbersIn, wideNumber, badList, tooMany, maxNumbers, maxListedOwners}
 use Rattle.rules.specs.Mark.{begun}
 use Rattle.rules.specs.Parameters.{badName, badParameters}
 use Rattle.rules.specs.Order.{Define, define, defineGroups, defineRadios, defineOwners}
@@ -24,6 +24,7 @@ use Rattle.rules.specs.Ledger.{Group, Ledger, view}
 use Rattle.rules.specs.Steps.{given, tally, apply, refused}
 use Rattle.rules.specs.Written.{maxOwners}
 use Rattle.rules.proofs.Tests.{or-l, or-r}
+use Rattle.rules.proofs.ListLaws.{rising-once}
 use Rattle.rules.proofs.Walks.{length-orders}
 use Rattle.rules.proofs.Ranges.{in-range}
 use Rattle.rules.proofs.ByNumber.{by-number}
@@ -31,9 +32,11 @@ use Rattle.rules.proofs.Effects.{Standing}
 use Rattle.rules.proofs.Written.{written-form}
 use Rattle.rules.proofs.Sound.{bad-order}
 use Rattle.rules.proofs.Steps.{define-lists, define-groups-total, define-pairs-total}
+use Rattle.order.specs.Keys.{fitting}
 use Rattle.order.specs.Row.{orderRowOf}
 use Rattle.order.specs.Steps.{defineStep}
 use Rattle.order.specs.Numbers.{radioNumber}
+use Rattle.order.proofs.RangeLaws.{passed-whole}
 use Rattle.order.specs.declared.Itsi.{Itsi}
 use Rattle.order.specs.declared.RadioKey.{RadioKey}
 use Rattle.store.specs.Storage.{Contents, placing, groupOf, ledgerOf}
@@ -44,7 +47,7 @@ use Rattle.store.proofs.FormLaws.{law-form}
 use Rattle.replies.specs.Orders.{replyOf, verdict}
 use Rattle.replies.specs.declared.Reply.the-variants.{Done, Refused}
 use Rattle.replies.proofs.Orders.{first-none, first-some, reply-none, reply-some, tests-pass}
-use Rattle.defining.specs.Parts.{anyUntaken}
+use Rattle.defining.specs.Parts.{faultsOf, ownersNamed}
 use Rattle.defining.specs.Carried.{carried}
 use Rattle.defining.specs.Sent.{assignOrders}
 use Rattle.defining.specs.Tests.{defineForm, defineStand}
@@ -52,6 +55,27 @@ use Rattle.defining.proofs.OrderRows.{order-group}
 
 standing : (c : Contents) → Sound c → Standing placing (ledgerOf c)
 standing c w = written-form placing (ledgerOf c) (law-form c w) .standing
+
+-- ---- a define that names no more than may be is handed on whole ----
+
+pub record Whole (o : Define) : Type 0 where
+  pub groups : fitting maxNumbers (defineGroups o) ≡ defineGroups o
+  pub radios : fitting maxNumbers (defineRadios o) ≡ defineRadios o
+  pub owners : rising (ownersNamed o) ≡ rising (defineOwners o)
+
+few-whole : (o : Define) → faultsOf o .many ≡ false → Whole o
+few-whole o e =
+    let home = o .asker .extension in
+    let manyGroups = tooMany maxNumbers home (o .groups) in
+    let manyOwners = tooMany maxListedOwners home (o .owners) in
+    let manyRadios = tooMany maxNumbers home (o .radios) in
+    let others = or-r manyGroups (manyOwners || manyRadios) e in
+    let owners = passed-whole maxListedOwners home (o .owners) (or-l manyOwners manyRadios others) in
+    record {
+      groups = passed-whole maxNumbers home (o .groups) (or-l manyGroups (manyOwners || manyRadios) e);
+      radios = passed-whole maxNumbers home (o .radios) (or-r manyOwners manyRadios others);
+      owners = ap (λ (l : List ℕ). rising (key (o .asker) ∷ l)) owners ∙ sym (rising-once (key (o .asker) ∷ numbersIn home (o .owners)));
+    }
 
 -- ---- its tests are those of form, then those of what stands ----
 
@@ -74,7 +98,9 @@ module _ (c : Contents) (w : Sound c) (asker : Itsi) (k : RadioKey) (same : k .0
       let m = define-pairs-total placing by-number l (standing c w) o room in
       λ i.
       (BadOrder, bad-order (radioNumber asker) values whole i)
-      ∷ (FormNotTaken, o .call || anyUntaken o)
+      ∷ (FormNotTaken, o .call || faultsOf o .untaken)
+      ∷ (BadRange, faultsOf o .crossed)
+      ∷ (TooManyNumbers, faultsOf o .many)
       ∷ (NotOwner, any (λ g. groupFault Taken (find eqb (l .groups) g) (sym same i)) (defineGroups o))
       ∷ (Full, ltb maxGroups (n i) || ltb maxPairs (m i))
       ∷ (NoRoom, ltb room (length-orders assign (defineGroups o) (defineRadios o) i))
@@ -85,6 +111,9 @@ module _ (c : Contents) (w : Sound c) (asker : Itsi) (k : RadioKey) (same : k .0
 
   pub stand-replies : Done ≡ replyOf (first form) → replyOf (first stand) ≡ replyOf (verdict c (defineStep asker values room))
   stand-replies e = rw (w .form) (ap replyOf (sym (ap first define-tests ∙ first-none form stand (reply-none (first form) e))))
+
+  pub form-whole : Done ≡ replyOf (first form) → Whole o
+  form-whole e = few-whole o (tests-pass form (reply-none (first form) e) 3)
 
 -- ---- the row that is read says the group that the order gives, and the state is the law's ----
 
@@ -110,16 +139,17 @@ module _ (c : Contents) (w : Sound c) (o : Define) (room : ℕ) where
   pub carried-law : carried (does .keeps) (given placing does) (defineGroups o) (defineRadios o) (does .begins .state) c ≡ apply placing (ledgerOf c) does
   carried-law = sym (define-lists placing by-number (ledgerOf c) (standing c w) o room)
 
--- a define that is taken has room for what it makes and sends, and a name that fits
-pub record Passed (values : List ℕ) (left : Ledger) (radios groups : List ℕ) (room : ℕ) : Type 0 where
+-- a define that is taken has lists that are handed on whole, room for what it makes and sends, and a name that fits
+pub record Passed (values : List ℕ) (left : Ledger) (o : Define) (room : ℕ) : Type 0 where
+  pub whole : Whole o
   pub few-groups : length (left .groups) ≤ maxGroups
   pub few-pairs : length (left .pairs) ≤ maxPairs
-  pub sends : length (assignOrders radios groups) ≤ room
+  pub sends : length (assignOrders (defineRadios o) (defineGroups o)) ≤ room
   pub name : badName (optionalName values) ≡ false
 
 pub define-passed : (l : Ledger) (asker : Itsi) (values : List ℕ) (room : ℕ) → refused placing l (defineStep asker values room) ≡ none
     → let o = defineOf (radioNumber asker) values in
-    Passed values (apply placing l (effect (view l) (defineStep asker values room))) (defineRadios o) (defineGroups o) room
+    Passed values (apply placing l (effect (view l) (defineStep asker values room))) o room
 unfolding defineOf parametersIn
 define-passed l asker values room e =
     let o = defineOf (radioNumber asker) values in
@@ -128,14 +158,15 @@ define-passed l asker values room e =
     let a = apply placing l (effect (view l) s) in
     let manyGroups = ltb maxGroups (length (a .groups)) in
     let manyPairs = ltb maxPairs (length (a .pairs)) in
-    let full = tests-pass t e 3 in
+    let full = tests-pass t e 5 in
     let lists = badList (o .groups) || (badList (o .owners) || (badList (o .radios) || badParameters (o .parameters))) in
     let b₁ = or-r (refuses (o .judged)) lists (or-r (wideNumber (radioNumber asker)) (refuses (o .judged) || lists) (tests-pass t e 0)) in
     let b₂ = or-r (badList (o .groups)) (badList (o .owners) || (badList (o .radios) || badParameters (o .parameters))) b₁ in
     let b₃ = or-r (badList (o .owners)) (badList (o .radios) || badParameters (o .parameters)) b₂ in
     record {
+      whole = few-whole o (tests-pass t e 3);
       few-groups = ltb-false maxGroups (length (a .groups)) (or-l manyGroups manyPairs full);
       few-pairs = ltb-false maxPairs (length (a .pairs)) (or-r manyGroups manyPairs full);
-      sends = ltb-false room (length (assignOrders (defineRadios o) (defineGroups o))) (tests-pass t e 4);
+      sends = ltb-false room (length (assignOrders (defineRadios o) (defineGroups o))) (tests-pass t e 6);
       name = in-range (parametersIn values) (or-r (badList (o .radios)) (badParameters (o .parameters)) b₃) .name;
     }

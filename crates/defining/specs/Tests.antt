@@ -5,7 +5,7 @@ use mathlib.Core.List.{List, [], _∷_}
 use lib.Dec.{eqb, ltb}
 use lib.ListN.{length}
 use Rattle.refusal.specs.declared.Refusal.{Refusal}
-use Rattle.refusal.specs.declared.Refusal.the-variants.{BadOrder, FormNotTaken, NotOwner, Full, NoRoom}
+use Rattle.refusal.specs.declared.Refusal.the-variants.{BadOrder, FormNotTaken, BadRange, TooManyNumbers, NotOwner, Full, NoRoom}
 use Rattle.rules.specs.Lists.{any}
 use Rattle.rules.specs.Entries.{find}
 use Rattle.rules.specs.Mark.{Mark}
@@ -16,14 +16,16 @@ use Rattle.rules.specs.Ledger.{Group, Pair}
 use Rattle.order.specs.declared.RadioKey.{RadioKey}
 use Rattle.store.specs.Named.{groupFault}
 use Rattle.store.specs.declared.Standing.the-variants.{Taken}
-use Rattle.defining.specs.Parts.{anyUntaken}
+use Rattle.defining.specs.Parts.{faultsOf}
 use Rattle.defining.specs.Totals.{newGroups, newPairs}
 
 -- of its form
 abbrev pub defineForm : Define → List (Refusal × Bool)
 defineForm o =
     (BadOrder, wideNumber (o .asker) || refuses (o .judged))
-    ∷ (FormNotTaken, o .call || anyUntaken o)
+    ∷ (FormNotTaken, o .call || faultsOf o .untaken)
+    ∷ (BadRange, faultsOf o .crossed)
+    ∷ (TooManyNumbers, faultsOf o .many)
     ∷ []
 
 -- and of what stands

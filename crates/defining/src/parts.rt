@@ -1,5 +1,6 @@
 // The lists of a define, read once: the keys that they name, and what is asked of them.
 use frame::PLACES;
+use order::DefineLists;
 use order::Groups;
 use order::Itsi;
 use order::Owners;
@@ -8,18 +9,42 @@ use order::keys::groups_in;
 use order::keys::owners_in;
 use order::keys::radios_in;
 use order::lists::untaken;
+use order::ranges::bad_range;
+use order::ranges::too_many;
+use order::ranges::too_many_owners;
 use order::record::lists_of;
 ghost use mathlib.Core.Path.{_≡_};
-ghost use Rattle.defining.specs.Parts.{partsOf};
+ghost use Rattle.order.specs.Lists.{listOf};
+ghost use Rattle.defining.specs.Parts.{faultsIn, partsOf};
+
+// What the lists of a define are refused for: an SNA; a range whose ends are bad; too many numbers.
+pub struct Faults {
+    pub untaken: bool,
+    pub crossed: bool,
+    pub many: bool,
+}
 
 // The groups and radios that a define names, the owners that it gives, whether the groups that stand keep theirs, and
-// whether it has a list of a form that is not taken.
+// what its lists are refused for.
 pub struct Parts {
     pub named: Groups,
     pub radios: Radios,
     pub owners: Owners,
     pub keeps: bool,
-    pub untaken: bool,
+    pub faults: Faults,
+}
+
+fn faults_of(asker: Itsi, lists: DefineLists) -> Faults
+    ensures { λ r. ⌜ r ≡ faultsIn (asker .1) (listOf (lists .groups)) (listOf (lists .owners)) (listOf (lists .radios)) ⌝ }
+{
+    let groups = lists.groups;
+    let owners = lists.owners;
+    let radios = lists.radios;
+    Faults {
+        untaken: untaken(groups) | (untaken(owners) | untaken(radios)),
+        crossed: bad_range(asker, groups) | (bad_range(asker, owners) | bad_range(asker, radios)),
+        many: too_many(asker, groups) | (too_many_owners(asker, owners) | too_many(asker, radios)),
+    }
 }
 
 pub fn parts_of(asker: Itsi, place: [u32; PLACES]) -> Parts
@@ -32,6 +57,6 @@ pub fn parts_of(asker: Itsi, place: [u32; PLACES]) -> Parts
         radios: radios_in(asker, lists.radios),
         owners: owners_in(asker, owners),
         keeps: !owners.given,
-        untaken: untaken(lists.groups) | (untaken(owners) | untaken(lists.radios)),
+        faults: faults_of(asker, lists),
     }
 }

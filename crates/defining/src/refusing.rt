@@ -1,4 +1,5 @@
 // What a define is refused with: each rule over the whole order, in the order of the law.
+use crate::parts::Faults;
 use crate::parts::Parts;
 use frame::Judged;
 use frame::Kind;
@@ -111,17 +112,23 @@ fn refuses(judged: Judged) -> bool
 }
 
 // What a define is refused with for its form.
-fn define_form_fault(asker: Itsi, place: [u32; PLACES], untaken: bool) -> Reply
-    requires { ⌜ untaken ≡ partsOf asker place .untaken ⌝ }
+fn define_form_fault(asker: Itsi, place: [u32; PLACES], faults: Faults) -> Reply
+    requires { ⌜ faults ≡ partsOf asker place .faults ⌝ }
     ensures { λ r. ⌜ r ≡ replyOf (first (defineForm (defineOf (radioNumber asker) place))) ⌝ }
 {
     let bad = wide_radio(asker) | refuses(frame::fault(Kind::Define, &place));
     if bad {
         return Reply::Refused(Refusal::BadOrder);
     }
-    let other = (place[CALL_RELATED] == YES) | untaken;
+    let other = (place[CALL_RELATED] == YES) | faults.untaken;
     if other {
         return Reply::Refused(Refusal::FormNotTaken);
+    }
+    if faults.crossed {
+        return Reply::Refused(Refusal::BadRange);
+    }
+    if faults.many {
+        return Reply::Refused(Refusal::TooManyNumbers);
     }
     Reply::Done
 }
@@ -174,7 +181,7 @@ pub fn define_fault(
     if !written(head, groups, pairs) {
         return Reply::Refused(Refusal::NotWritten);
     }
-    let fault = define_form_fault(asker, place, parts.untaken);
+    let fault = define_form_fault(asker, place, parts.faults);
     let Reply::Done = fault else {
         return fault;
     };
