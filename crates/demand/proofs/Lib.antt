@@ -9,3 +9,4 @@ pub mod Anew
 pub mod Visitor
 pub mod Asked
 pub mod Before
+pub mod Spelled

@@ -4,3 +4,4 @@ pub mod Runs
 pub mod Demand
 pub mod Asked
 pub mod Before
+pub mod Spelled

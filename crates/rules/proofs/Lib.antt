@@ -14,6 +14,7 @@ pub mod Totals
 pub mod Agree
 pub mod Keys
 pub mod Consecutive
+pub mod InRange
 pub mod Ranges
 pub mod Written
 pub mod Listing
@@ -24,6 +25,7 @@ pub mod Anew
 pub mod Visitor
 pub mod LawOrder
 pub mod Steps
+pub mod Spelled
 pub mod Recorded
 pub mod Laid
 pub mod Places

@@ -9,6 +9,12 @@ split false yes′ no′ = no′ refl
 pub clash {ℓ} : {P : Type ℓ} → true ≡ false → P
 clash e = absurd (mathlib.Core.Bool.true≢false e)
 
+-- two tests that pass together are one
+pub both-ways : (a b : Bool) → (a ≡ true → b ≡ true) → (b ≡ true → a ≡ true) → a ≡ b
+both-ways true b h k = sym (h refl)
+both-ways false true h k = k refl
+both-ways false false h k = refl
+
 pub and-false : (b : Bool) → (b && false) ≡ false
 and-false true = refl
 and-false false = refl

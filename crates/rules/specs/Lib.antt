@@ -23,4 +23,5 @@ pub mod Written
 pub mod Demand
 pub mod Alike
 pub mod Stretches
+pub mod Spelled
 pub mod Visitor

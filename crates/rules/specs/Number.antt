@@ -74,7 +74,7 @@ abbrev pub consecutive : ℕ → ℕ → List ℕ
 consecutive first zero = []
 consecutive first (suc n) = first ∷ consecutive (suc first) n
 
--- a range, by its "first and last: both ends count, in rising order"
+-- a range, by its first and its last: "both ends count, in rising order"
 abbrev pub range : List ℕ → List ℕ
 range [] = []
 range (first ∷ []) = []

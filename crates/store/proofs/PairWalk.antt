@@ -14,14 +14,14 @@ use Rattle.rules.specs.Ledger.{Pair}
 use Rattle.rules.specs.Number.{keyLimit, wideKey}
 use Rattle.rules.specs.Written.{goodMark}
 use Rattle.rules.specs.ByNumber.{lower, belowPair}
-use Rattle.rules.proofs.Tests.{split, clash, and-in, and-l, and-r, and-false}
+use Rattle.rules.proofs.Tests.{split, clash, and-in, and-l, and-r, and-false, both-ways}
 use Rattle.rules.proofs.ListLaws.{eqb-flip}
 use Rattle.rules.proofs.ByNumber.{pair-cases}
 use Rattle.order.specs.Walks.{left}
 use Rattle.order.proofs.Walks.{left-cons, left-end}
 use Rattle.store.specs.Storage.{pairOf}
 use Rattle.store.specs.Form.{keyIn, goodNext, goodPairs}
-use Rattle.store.proofs.Tests.{both-ways, all-carries, and-turn, narrow}
+use Rattle.store.proofs.Tests.{all-carries, and-turn, narrow}
 
 -- ---- the steps ----
 
