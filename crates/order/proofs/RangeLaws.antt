@@ -1,5 +1,5 @@
 -- Laws of a list's keys as they are made: two ends and all between them, or the identities' own; and no more than may be.
-use Prim.Native.Nat.{ℕ, suc, _-_, _≤_, _<_}
+use Prim.Native.Nat.{ℕ, _-_, _≤_, _<_}
 use mathlib.Core.Path.{_≡_, refl, sym, ap, _∙_}
 use mathlib.Core.Bool.{Bool, true, false, _&&_}
 use mathlib.Core.List.{List, [], _∷_, map}
@@ -9,7 +9,7 @@ use lib.Dec.{eqb, ltb, leb}
 use lib.ListN.{length, getD, length-map, length-take}
 use borrow.Author.Tests.{eqb-true, ltb-false, leb-true, leb-false, lt-ltb, le-ltb}
 use Rattle.rules.specs.Lists.{once}
-use Rattle.rules.specs.Number.{count, used, identified, identityKey, consecutive, range, spelled, numbers, numbersIn, crossed, badRange, tooMany}
+use Rattle.rules.specs.Number.{count, used, identified, identityKey, consecutive, range, spelled, numbers, numbersIn, crossed, badRange, tooMany, span}
 use Rattle.rules.specs.Number as number
 use Rattle.rules.proofs.Tests.{split}
 use Rattle.rules.proofs.ListLaws.{Once, length-once}
@@ -24,10 +24,10 @@ ssi-named home i = split (eqb (i .form) 2) (λ e. rw e) (λ e. rw e)
 
 -- ---- how many ----
 
-pub longer : (first last most : ℕ) → first ≤ last → leb most (last - first) ≡ ltb most (suc last - first)
+pub longer : (first last most : ℕ) → first ≤ last → leb most (last - first) ≡ ltb most (span first last)
 longer first last most h = split (leb most (last - first))
-    (λ e. let p = leb-true most (last - first) e in e ∙ sym (lt-ltb most (suc last - first) (omega arith)))
-    (λ e. let p = leb-false most (last - first) e in e ∙ sym (le-ltb most (suc last - first) (omega arith)))
+    (λ e. let p = leb-true most (last - first) e in e ∙ sym (lt-ltb most (span first last) (omega arith)))
+    (λ e. let p = leb-false most (last - first) e in e ∙ sym (le-ltb most (span first last) (omega arith)))
 
 pub fitting-all : (most : ℕ) (l : List ℕ) → length l ≤ most → fitting most l ≡ l
 fitting-all most l h = rw (le-ltb most (length l) h)
@@ -62,12 +62,12 @@ module _ (home : ℕ) (l : List Identity) (d : Identity) (h : length l ≡ 10) w
 
   -- and names all from the first to the last
   pub range-numbers : (code : ℕ) → eqb code 1 ≡ true
-      → numbers home (numbersAs code l) ≡ consecutive (identityKey home (end 0)) (suc (identityKey home (end 1)) - identityKey home (end 0))
+      → numbers home (numbersAs code l) ≡ consecutive (identityKey home (end 0)) (span (identityKey home (end 0)) (identityKey home (end 1)))
   unfolding numbers
   range-numbers code e =
       ap (λ (c : ℕ). once (spelled c (map (identityKey home) (used (numbersAs c l))))) (eqb-true code 1 e)
       ∙ ap (λ (z : List number.Identity). once (range (map (identityKey home) z))) (ends-used l (omega arith))
-      ∙ consecutive-once (identityKey home (end 0)) (suc (identityKey home (end 1)) - identityKey home (end 0))
+      ∙ consecutive-once (identityKey home (end 0)) (span (identityKey home (end 0)) (identityKey home (end 1)))
 
   -- any other names what its identities name
   pub listed-numbers : (code : ℕ) → eqb code 1 ≡ false → numbers home (numbersAs code l) ≡ once (map (identityKey home) (used (numbersAs code l)))
@@ -92,7 +92,7 @@ module _ (home : ℕ) (l : List Identity) (d : Identity) (h : length l ≡ 10) w
       go true e = q ∙ ap (λ (z : List number.Identity). crossed (map (identified home) z)) (sym (range-ends code e))
       go false e = refl
 
-  pub range-long : (code most : ℕ) (b : Bool) → 10 ≤ most → b ≡ ltb most (suc (identityKey home (end 1)) - identityKey home (end 0))
+  pub range-long : (code most : ℕ) (b : Bool) → 10 ≤ most → b ≡ ltb most (span (identityKey home (end 0)) (identityKey home (end 1)))
       → (eqb code 1 && b) ≡ tooMany most home (some (numbersAs code l))
   range-long code most b few q = go (eqb code 1) refl
     where

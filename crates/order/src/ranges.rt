@@ -7,12 +7,12 @@ use crate::keys::identity_key;
 use rows::MAX_LISTED;
 use rows::MAX_LISTED_OWNERS;
 use rows::MAX_NUMBERS;
-ghost use Prim.Native.Nat.{suc, _-_, _≤_};
+ghost use Prim.Native.Nat.{_≤_};
 ghost use lib.Dec.{ltb};
 ghost use mathlib.Core.List.{[], _∷_};
 ghost use mathlib.Core.Option.{some};
 ghost use mathlib.Core.Path.{_≡_};
-ghost use Rattle.rules.specs.Number.{identified, crossed, badRange, tooMany, maxNumbers, maxListedOwners};
+ghost use Rattle.rules.specs.Number.{identified, span, crossed, badRange, tooMany, maxNumbers, maxListedOwners};
 ghost use Rattle.rows.specs.Layout.{maxListed};
 ghost use Rattle.order.specs.Lists.{identityOf, numbersAs, listOf};
 
@@ -44,7 +44,7 @@ pub fn bad_range(asker: Itsi, list: Listed) -> bool
 
 // Whether there are more than `most` keys from a first to a last.
 fn too_long(first: u64, last: u64, most: usize) -> bool
-    ensures { λ r. ⌜ r ≡ ltb most (suc last - first) ⌝ }
+    ensures { λ r. ⌜ r ≡ ltb most (span first last) ⌝ }
 {
     if last < first {
         return false;

@@ -7,11 +7,11 @@ use crate::lists::member;
 use crate::lists::used_count;
 use rows::MAX_LISTED;
 use rows::MAX_NUMBERS;
-ghost use Prim.Native.Nat.{suc, _+_, _-_, _^_, _≤_};
+ghost use Prim.Native.Nat.{_+_, _^_, _≤_};
 ghost use mathlib.Core.List.{[], map};
 ghost use mathlib.Core.Path.{_≡_};
 ghost use Rattle.rules.specs.Lists.{once};
-ghost use Rattle.rules.specs.Number.{used, identityKey, consecutive, numbers, numbersIn, maxNumbers};
+ghost use Rattle.rules.specs.Number.{used, identityKey, consecutive, span, numbers, numbersIn, maxNumbers};
 ghost use Rattle.rows.specs.Layout.{maxListed};
 ghost use Rattle.order.specs.Keys.{fitting, keysAs};
 ghost use Rattle.order.specs.Lists.{numbersAs, listOf};
@@ -62,7 +62,7 @@ fn consecutive_keys(first: u64, count: usize) -> KeyList
 // The keys of a range, from its first to its last; none where they are more than `most`. No number past the last is made.
 fn range_keys(first: u64, last: u64, most: usize) -> KeyList
     requires { ⌜ most ≤ maxNumbers ⌝ }
-    ensures { λ r. ⌜ r ≡ keysAs (fitting most (consecutive first (suc last - first))) ⌝ }
+    ensures { λ r. ⌜ r ≡ keysAs (fitting most (consecutive first (span first last))) ⌝ }
 {
     if last < first {
         return no_keys();

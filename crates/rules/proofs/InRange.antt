@@ -9,7 +9,7 @@ use lib.ListN.{length}
 use native.Mathlib.Omega.{arith}
 use borrow.Author.Tests.{eqb-true, ltb-false, leb-true, eq-eqb, le-leb, not-false}
 use Rattle.rules.specs.Lists.{mem, once, Rising}
-use Rattle.rules.specs.Number.{Number, Identity, Numbers, used, key, identified, identityKey, consecutive, spelled, numbers}
+use Rattle.rules.specs.Number.{Number, Identity, Numbers, used, key, identified, identityKey, consecutive, span, spelled, numbers}
 use Rattle.rules.specs.Number.{wideNumber, crossed, badRange}
 use Rattle.rules.proofs.Tests.{both-ways, and-in, and-l, and-r, or-l, or-r}
 use Rattle.rules.proofs.Keys.{narrow}
@@ -47,7 +47,7 @@ module _ (home : ℕ) (range : Numbers) (first last : Number) (h : Range home ra
   size = suc (last .ssi) - first .ssi
 
   -- in one extension keys are as far apart as SSIs
-  size-keys : suc (key last) - key first ≡ size
+  size-keys : span (key first) (key last) ≡ size
   unfolding key
   size-keys = let e = one-extension in omega arith
 
@@ -57,7 +57,7 @@ module _ (home : ℕ) (range : Numbers) (first last : Number) (h : Range home ra
   in-a-row =
       ap (λ (code : ℕ). once (spelled code (map (identityKey home) (used range)))) (eqb-true (range .code) 1 (h .isRange))
       ∙ ap (λ (keys : List ℕ). once (spelled 1 keys)) (keys-named home (used range) ∙ ap (map key) (h .ends))
-      ∙ consecutive-once (key first) (suc (key last) - key first)
+      ∙ consecutive-once (key first) (span (key first) (key last))
       ∙ ap (consecutive (key first)) size-keys
 
   -- "both ends count", and the numbers between them, of the one extension: no other

@@ -15,6 +15,7 @@ pub mod Agree
 pub mod Keys
 pub mod Consecutive
 pub mod InRange
+pub mod RangeSamples
 pub mod Ranges
 pub mod Written
 pub mod Listing

@@ -1,15 +1,15 @@
 -- What passed the tests of BadOrder and FormNotTaken is within the ranges of the written form.
-use Prim.Native.Nat.{ℕ, suc, _+_, _-_, _≤_, _<_}
+use Prim.Native.Nat.{ℕ, _+_, _≤_, _<_}
 use mathlib.Core.Path.{_≡_, refl, sym, _∙_, ap}
 use mathlib.Core.Bool.{Bool, true, false, not, _&&_, _||_}
 use mathlib.Core.List.{List, [], _∷_, map}
 use mathlib.Core.Option.{Option, none, some}
 use lib.Dec.{eqb, ltb, leb}
-use lib.ListN.{length, take}
+use lib.ListN.{length}
 use native.Mathlib.Omega.{arith}
 use borrow.Author.Tests.{eqb-true, eqb-false, leb-false, le-leb, lt-leb, lt-ltb}
 use Rattle.rules.specs.Lists.{any, mem, once}
-use Rattle.rules.specs.Number.{Identity, Numbers, used, identified, identityKey, range, spelled, numbers, numbersIn}
+use Rattle.rules.specs.Number.{Identity, Numbers, used, identified, identityKey, span, range, spelled, numbers, numbersIn}
 use Rattle.rules.specs.Number.{wide, wideNumber, keyLimit, wideKey, badIdentity, badList, untaken, maxListedOwners}
 use Rattle.rules.specs.Parameters.{Parameters, over, replaced, tooLarge, badName, badParameters}
 use Rattle.rules.specs.Mark.{Mark, waiting, T1, begun, ticked}
@@ -59,7 +59,7 @@ module _ (home : ℕ) where
   range-narrow (first ∷ []) h x e = clash (sym e)
   range-narrow (first ∷ last ∷ more) h x e =
       let low = leb-false keyLimit last (h last (last-in (eqb last first) (eqb last last) (mem last more) (eqb-same last))) in
-      let within = consecutive-mem first (suc last - first) x e in
+      let within = consecutive-mem first (span first last) x e in
       lt-leb keyLimit x (omega arith)
 
   -- a list that passed both has numbers in range

@@ -10,7 +10,7 @@ use lib.Seq.{take-all}
 use native.Mathlib.Omega.{arith}
 use borrow.Author.Tests.{eqb-true, le-ltb}
 use Rattle.rules.specs.Lists.{any, mem, once, present}
-use Rattle.rules.specs.Number.{Identity, Numbers, count, used, key, plain, identified, identityKey, numbers, numbersIn}
+use Rattle.rules.specs.Number.{Identity, Numbers, count, used, identified, identityKey, numbers, numbersIn}
 use Rattle.rules.specs.Number.{wide, wideKey, badIdentity, badList, untaken, crossed, badRange}
 use Rattle.rules.specs.Order.{Step}
 use Rattle.rules.specs.World.{World, Tally}
@@ -153,23 +153,3 @@ range-spelled home range w code good taken rises short = record {
     all-used : used (spelledOut home range) ≡ map whole (numbers home range)
     all-used = take-all (count (cond (eqb n 1) 0 n)) (map whole (numbers home range))
         (let e = length-map (numbers home range) whole in let c = code-counts n in omega arith)
-
--- ---- samples ----
-
--- an identity that is a plain SSI, and one with its extension
-abbrev short : ℕ → Identity
-short ssi = record { form = 1; sna = 0; ssi = ssi; extension = 0 }
-
-abbrev long : ℕ → ℕ → Identity
-long ssi extension = record { form = 2; sna = 0; ssi = ssi; extension = extension }
-
--- for an asker of extension 7, from plain SSI 5 to SSI 8 of extension 7
-pub four-in-a-row : numbers 7 (record { code = 1; places = short 5 ∷ long 8 7 ∷ [] })
-    ≡ key (plain 7 5) ∷ key (plain 7 6) ∷ key (plain 7 7) ∷ key (plain 7 8) ∷ []
-unfolding numbers key
-four-in-a-row = refl
-
--- a range of one: the last SSI there is, FFFFFF
-pub one-at-the-end : numbers 7 (record { code = 1; places = short 16777215 ∷ short 16777215 ∷ [] }) ≡ key (plain 7 16777215) ∷ []
-unfolding numbers key
-one-at-the-end = refl

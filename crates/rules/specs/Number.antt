@@ -74,11 +74,15 @@ abbrev pub consecutive : ℕ → ℕ → List ℕ
 consecutive first zero = []
 consecutive first (suc n) = first ∷ consecutive (suc first) n
 
--- a range, by its first and its last: "both ends count, in rising order"
+-- how many there are from a first to a last: "both ends count"
+abbrev pub span : ℕ → ℕ → ℕ
+span first last = suc last - first
+
+-- a range, by its first and its last: all of these, "in rising order"
 abbrev pub range : List ℕ → List ℕ
 range [] = []
 range (first ∷ []) = []
-range (first ∷ last ∷ more) = consecutive first (suc last - first)
+range (first ∷ last ∷ more) = consecutive first (span first last)
 
 -- what a list says of its keys: number type 1 names all of a range, any other the keys themselves
 abbrev pub spelled : ℕ → List ℕ → List ℕ

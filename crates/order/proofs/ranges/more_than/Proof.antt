@@ -1,8 +1,8 @@
 -- `order::more_than` meets its contract.
 use mathlib.Core.Path.{_≡_, _∙_}
-use Prim.Native.Nat.{suc, _-_}
 use lib.Dec.{ltb}
 use lib.ListN.{length}
+use Rattle.rules.specs.Number.{span}
 use Rattle.order.proofs.ListLaws.{nobody}
 use Rattle.order.proofs.RangeLaws.{range-long}
 use borrow.Author.Needs.{needs}
@@ -31,7 +31,7 @@ returns c =
     let ten : length (a .t3) ≡ 10 = search needs in
     let first = c .before .before .before .identity-key .ensures in
     let last = c .before .identity-key2 .ensures in
-    range-long (a .home) (a .t3) nobody ten (a .code) (a .most) _ (s .pre) (c .too-long .ensures ∙ (λ i. ltb (a .most) (suc (last i) - first i)))
+    range-long (a .home) (a .t3) nobody ten (a .code) (a .most) _ (s .pre) (c .too-long .ensures ∙ (λ i. ltb (a .most) (span (first i) (last i))))
 
 pub more-than-spec : {M : Type 1} → statement M
 more-than-spec =

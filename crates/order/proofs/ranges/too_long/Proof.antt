@@ -1,14 +1,14 @@
 -- `order::too_long` meets its contract.
 use mathlib.Core.Path.{sym}
 use native.Mathlib.Omega.{arith}
-use Prim.Native.Nat.{suc, _-_}
 use borrow.Author.Tests.{le-ltb}
+use Rattle.rules.specs.Number.{span}
 use Rattle.order.proofs.RangeLaws.{longer}
 use Rattle.order.proofs.ranges.too_long.Statement.{statement}
 use Rattle.order.proofs.ranges.too_long.Tie as tie
 
 returns : tie.Need-returns
-returns c = let a = c .before .args in sym (le-ltb (a .most) (suc (a .last) - a .first) (omega (arith, c .if1 .taken)))
+returns c = let a = c .before .args in sym (le-ltb (a .most) (span (a .first) (a .last)) (omega (arith, c .if1 .taken)))
 
 returns-2 : tie.Need-returns-2
 returns-2 c = let a = c .before .args in longer (a .first) (a .last) (a .most) (omega (arith, c .if1 .left))

@@ -2,10 +2,10 @@
 use mathlib.Core.Path.{_≡_, sym, ap, _∙_}
 use mathlib.Core.List.{List}
 use native.Mathlib.Omega.{arith}
-use Prim.Native.Nat.{ℕ, suc, _-_, _≤_}
+use Prim.Native.Nat.{ℕ, _≤_}
 use lib.ListN.{length}
 use borrow.Author.Tests.{eq-eqb, ne-eqb}
-use Rattle.rules.specs.Number.{consecutive, numbers}
+use Rattle.rules.specs.Number.{consecutive, numbers, span}
 use Rattle.order.specs.Keys.{fitting, keysAs}
 use Rattle.order.specs.Lists.{numbersAs}
 use Rattle.order.proofs.ListLaws.{nobody}
@@ -36,7 +36,7 @@ returns c =
     let range = eq-eqb (a .code) 1 (c .before .before .before .before .before .if1 .taken) in
     let first = c .before .before .before .identity-key .ensures in
     let last = c .before .identity-key2 .ensures in
-    c .range-keys .ensures ∙ (λ i. keysAs (fitting (a .most) (consecutive (first i) (suc (last i) - first i))))
+    c .range-keys .ensures ∙ (λ i. keysAs (fitting (a .most) (consecutive (first i) (span (first i) (last i)))))
     ∙ ap (λ (l : List ℕ). keysAs (fitting (a .most) l)) (sym (range-numbers (a .home) (a .t3) nobody ten (a .code) range))
 
 listed-keys-requires : tie.Need-listed-keys-requires

@@ -2,9 +2,9 @@
 use mathlib.Core.Path.{_≡_, sym, ap, _∙_}
 use mathlib.Core.List.{List, []}
 use native.Mathlib.Omega.{arith}
-use Prim.Native.Nat.{ℕ, suc, _+_, _-_, _≤_, _<_}
+use Prim.Native.Nat.{ℕ, _+_, _-_, _≤_, _<_}
 use lib.ListN.{length}
-use Rattle.rules.specs.Number.{consecutive}
+use Rattle.rules.specs.Number.{consecutive, span}
 use Rattle.rules.proofs.Consecutive.{consecutive-length}
 use Rattle.order.specs.Keys.{fitting, keysAs}
 use Rattle.order.proofs.RangeLaws.{fitting-all, fitting-none}
@@ -14,11 +14,11 @@ use Rattle.order.proofs.spelling.range_keys.Tie as tie
 
 -- the keys from the first to the last
 abbrev all : tie.Start → List ℕ
-all s = consecutive (s .args .first) (suc (s .args .last) - s .args .first)
+all s = consecutive (s .args .first) (span (s .args .first) (s .args .last))
 
 -- and how many they are
-many : (s : tie.Start) → length (all s) ≡ suc (s .args .last) - s .args .first
-many s = consecutive-length (s .args .first) (suc (s .args .last) - s .args .first)
+many : (s : tie.Start) → length (all s) ≡ span (s .args .first) (s .args .last)
+many s = consecutive-length (s .args .first) (span (s .args .first) (s .args .last))
 
 no-keys-requires : tie.Need-no-keys-requires
 no-keys-requires c κs = search needs
@@ -26,7 +26,7 @@ no-keys-requires c κs = search needs
 returns : tie.Need-returns
 returns c =
     let a = c .before .before .args in
-    let e : suc (a .last) - a .first ≡ 0 = omega (arith, c .before .if1 .taken) in
+    let e : span (a .first) (a .last) ≡ 0 = omega (arith, c .before .if1 .taken) in
     c .no-keys .ensures ∙ ap keysAs (sym (ap (λ (n : ℕ). fitting (a .most) (consecutive (a .first) n)) e ∙ fitting-all (a .most) [] (omega arith)))
 
 no-keys-requires-2 : tie.Need-no-keys-requires-2
@@ -49,7 +49,7 @@ returns-3 c =
     let s = c .before .before .before in
     let a = s .args in
     let few : length (all s) ≤ a .most = omega (arith, many s, c .before .if2 .left, c .before .before .if1 .left) in
-    let e : a .last - a .first + 1 ≡ suc (a .last) - a .first = omega (arith, c .before .before .if1 .left) in
+    let e : a .last - a .first + 1 ≡ span (a .first) (a .last) = omega (arith, c .before .before .if1 .left) in
     c .consecutive-keys .ensures ∙ ap keysAs (ap (consecutive (a .first)) e ∙ sym (fitting-all (a .most) (all s) few))
 
 pub range-keys-spec : {M : Type 1} → statement M
