@@ -171,6 +171,10 @@ samples =
     -- lists rise by extension, then SSI; an SSI with the asker's own extension is the plain one
     ∷ ordered 5 start (assignsAll 5 (listed 3 (extended 3 6 ++ ssi 9 ++ extended 4 5)) 3) 0 (listedAs 5 4 1 ∷ listedAs 5 9 1 ∷ listedAs 6 3 1 ∷ [])
     ∷ ordered 5 start (assignsAll 5 (listed 2 (extended 9 5 ++ ssi 9)) 1) 0 (listedAs 5 9 1 ∷ [])
+    -- ranges: both ends count; first above last; an SNA as an end
+    ∷ ordered 5 start (assignsAll 5 (listed 1 (ssi 7 ++ extended 9 5)) 3) 0 (listedAs 5 7 1 ∷ listedAs 5 8 1 ∷ listedAs 5 9 1 ∷ [])
+    ∷ ordered 5 (start then assigns 5) (assignsAll 5 (listed 1 (ssi 9 ++ ssi 8)) 1) 19 (listedAs 5 9 1 ∷ [])
+    ∷ ordered 5 (start then assigns 5) (assignsAll 5 (listed 1 (sna 8 ++ ssi 9)) 2) 11 (listedAs 5 9 1 ∷ [])
     ∷ [])))
 
 -- ---- what they pass
