@@ -78,8 +78,9 @@ module _ (home : ℕ) (l : List Identity) (d : Identity) (h : length l ≡ 10) w
   pub listed-few : (code : ℕ) → eqb code 1 ≡ false → length (numbers home (numbersAs code l)) ≤ 10
   listed-few code e =
       let keys = map (identityKey home) (used (numbersAs code l)) in
-      let few : length keys ≤ 10 = rw (length-map (used (numbersAs code l)) (identityKey home), length-take (count code) (map identityOf l), length-map l identityOf, h)
-      (omega arith) in
+      let places = map identityOf l in
+      let few : length keys ≤ 10 =
+      rw (length-map (used (numbersAs code l)) (identityKey home), length-take (count code) places, length-map l identityOf, h) (omega arith) in
       rw (listed-numbers code e) (let once = length-once keys in omega arith)
 
   -- ---- what is refused ----
