@@ -8,12 +8,12 @@ use native.Mathlib.Omega.{arith}
 use lib.Dec.{eqb, ltb, leb}
 use lib.ListN.{length, getD, length-map, length-take}
 use borrow.Author.Tests.{eqb-true, ltb-false, leb-true, leb-false, lt-ltb, le-ltb}
-use Rattle.rules.specs.Lists.{once}
-use Rattle.rules.specs.Number.{count, used, identified, identityKey, consecutive, range, spelled, numbers, numbersIn, crossed, badRange, tooMany, span}
+use Rattle.rules.specs.Number.{count, used, identified, identityKey, consecutive, numbers, numbersIn, crossed, badRange, tooMany, span}
 use Rattle.rules.specs.Number as number
 use Rattle.rules.proofs.Tests.{split}
 use Rattle.rules.proofs.ListLaws.{Once, length-once}
-use Rattle.rules.proofs.Consecutive.{consecutive-length, consecutive-once}
+use Rattle.rules.proofs.Consecutive.{consecutive-length}
+use Rattle.rules.proofs.InRange.{listed-numbers, range-numbers}
 use Rattle.order.specs.Keys.{fitting}
 use Rattle.order.specs.Lists.{identityOf, numbersAs}
 use Rattle.order.specs.declared.Identity.{Identity}
@@ -61,27 +61,19 @@ module _ (home : ℕ) (l : List Identity) (d : Identity) (h : length l ≡ 10) w
   range-ends code e = ap (λ (c : ℕ). used (numbersAs c l)) (eqb-true code 1 e) ∙ ends-used l (omega arith)
 
   -- and names all from the first to the last
-  pub range-numbers : (code : ℕ) → eqb code 1 ≡ true
+  pub ends-numbers : (code : ℕ) → eqb code 1 ≡ true
       → numbers home (numbersAs code l) ≡ consecutive (identityKey home (end 0)) (span (identityKey home (end 0)) (identityKey home (end 1)))
-  unfolding numbers
-  range-numbers code e =
-      ap (λ (c : ℕ). once (spelled c (map (identityKey home) (used (numbersAs c l))))) (eqb-true code 1 e)
-      ∙ ap (λ (z : List number.Identity). once (range (map (identityKey home) z))) (ends-used l (omega arith))
-      ∙ consecutive-once (identityKey home (end 0)) (span (identityKey home (end 0)) (identityKey home (end 1)))
+  ends-numbers code e =
+      range-numbers home (numbersAs code l) (identityKey home (end 0)) (identityKey home (end 1)) e (ap (map (identityKey home)) (range-ends code e))
 
-  -- any other names what its identities name
-  pub listed-numbers : (code : ℕ) → eqb code 1 ≡ false → numbers home (numbersAs code l) ≡ once (map (identityKey home) (used (numbersAs code l)))
-  unfolding numbers
-  listed-numbers code e = rw e
-
-  -- and no more than ten
+  -- any other names no more than ten
   pub listed-few : (code : ℕ) → eqb code 1 ≡ false → length (numbers home (numbersAs code l)) ≤ 10
   listed-few code e =
       let keys = map (identityKey home) (used (numbersAs code l)) in
       let places = map identityOf l in
       let few : length keys ≤ 10 =
       rw (length-map (used (numbersAs code l)) (identityKey home), length-take (count code) places, length-map l identityOf, h) (omega arith) in
-      rw (listed-numbers code e) (let once = length-once keys in omega arith)
+      rw (listed-numbers home (numbersAs code l) e) (let once = length-once keys in omega arith)
 
   -- ---- what is refused ----
 
@@ -98,5 +90,5 @@ module _ (home : ℕ) (l : List Identity) (d : Identity) (h : length l ≡ 10) w
   range-long code most b few q = go (eqb code 1) refl
     where
       go : (t : Bool) → eqb code 1 ≡ t → (t && b) ≡ ltb most (length (numbers home (numbersAs code l)))
-      go true e = q ∙ ap (ltb most) (sym (ap length (range-numbers code e) ∙ consecutive-length (identityKey home (end 0)) _))
+      go true e = q ∙ ap (ltb most) (sym (ap length (ends-numbers code e) ∙ consecutive-length (identityKey home (end 0)) _))
       go false e = sym (le-ltb most (length (numbers home (numbersAs code l))) (omega (arith, listed-few code e)))

@@ -1,7 +1,7 @@
 -- What a range names, by SSI and extension: "both ends count, in rising order, and both must have the same extension".
 use Prim.Native.Nat.{ℕ, suc, _+_, _-_, _≤_, _<_}
 use mathlib.Core.Path.{_≡_, refl, sym, _∙_, ap, subst}
-use mathlib.Core.Bool.{Bool, true, false, not, _&&_}
+use mathlib.Core.Bool.{Bool, true, false, cond, not, _&&_}
 use mathlib.Core.List.{List, [], _∷_, map}
 use mathlib.Core.Option.{some}
 use lib.Dec.{eqb, ltb, leb}
@@ -9,7 +9,7 @@ use lib.ListN.{length}
 use native.Mathlib.Omega.{arith}
 use borrow.Author.Tests.{eqb-true, ltb-false, leb-true, eq-eqb, le-leb, not-false}
 use Rattle.rules.specs.Lists.{mem, once, Rising}
-use Rattle.rules.specs.Number.{Number, Identity, Numbers, used, key, identified, identityKey, consecutive, span, spelled, numbers}
+use Rattle.rules.specs.Number.{Number, Identity, Numbers, used, key, identified, identityKey, consecutive, span, range, numbers}
 use Rattle.rules.specs.Number.{wideNumber, crossed, badRange}
 use Rattle.rules.proofs.Tests.{both-ways, and-in, and-l, and-r, or-l, or-r}
 use Rattle.rules.proofs.Keys.{narrow}
@@ -23,6 +23,23 @@ pub record Range (home : ℕ) (range : Numbers) (first last : Number) : Type 0 w
   pub narrowFirst : wideNumber first ≡ false
   pub narrowLast : wideNumber last ≡ false
   pub rises : badRange home (some range) ≡ false
+
+-- ---- what a list names, by its keys ----
+
+-- a list that is no range names the keys of its identities, each once
+pub listed-numbers : (home : ℕ) (n : Numbers) → eqb (n .code) 1 ≡ false → numbers home n ≡ once (map (identityKey home) (used n))
+unfolding numbers
+listed-numbers home n e = rw e
+
+-- a range names all keys from its first to its last
+pub range-numbers : (home : ℕ) (n : Numbers) (first last : ℕ) → eqb (n .code) 1 ≡ true → map (identityKey home) (used n) ≡ first ∷ last ∷ []
+    → numbers home n ≡ consecutive first (span first last)
+unfolding numbers
+range-numbers home n first last e k =
+    ap (λ (b : Bool). once (cond b (range (map (identityKey home) (used n))) (map (identityKey home) (used n)))) e
+    ∙ ap (λ (keys : List ℕ). once (range keys)) k ∙ consecutive-once first (span first last)
+
+-- ---- and by its numbers ----
 
 -- the keys of identities are those of the numbers that they name
 keys-named : (home : ℕ) (l : List Identity) → map (identityKey home) l ≡ map key (map (identified home) l)
@@ -53,11 +70,8 @@ module _ (home : ℕ) (range : Numbers) (first last : Number) (h : Range home ra
 
   -- the range as keys in a row
   in-a-row : numbers home range ≡ consecutive (key first) size
-  unfolding numbers
   in-a-row =
-      ap (λ (code : ℕ). once (spelled code (map (identityKey home) (used range)))) (eqb-true (range .code) 1 (h .isRange))
-      ∙ ap (λ (keys : List ℕ). once (spelled 1 keys)) (keys-named home (used range) ∙ ap (map key) (h .ends))
-      ∙ consecutive-once (key first) (span (key first) (key last))
+      range-numbers home range (key first) (key last) (h .isRange) (keys-named home (used range) ∙ ap (map key) (h .ends))
       ∙ ap (consecutive (key first)) size-keys
 
   -- "both ends count", and the numbers between them, of the one extension: no other

@@ -23,6 +23,7 @@ use Rattle.rules.specs.Steps.{apply, tally, refused}
 use Rattle.rules.specs.Spelled.{Spells, Said, same, spelled, AsListed, defines, deletes, AsOne, whole, spelledOut}
 use Rattle.rules.proofs.Tests.{split, or-in}
 use Rattle.rules.proofs.Keys.{number-narrow, key-number}
+use Rattle.rules.proofs.InRange.{listed-numbers}
 use Rattle.rules.proofs.Ranges.{numbers-narrow}
 use Rattle.rules.proofs.ListLaws.{eqb-same, once-same}
 use Rattle.rules.proofs.Steps.{numbers-once}
@@ -37,15 +38,10 @@ pub record Agrees (home : ℕ) (a b : Option Numbers) : Type 0 where
   pub rises : badRange home a ≡ badRange home b
   pub there : present a ≡ present b
 
--- a list, no range, names its identities' keys, each once
-listed : (home : ℕ) (list : Numbers) → eqb (list .code) 1 ≡ false → numbers home list ≡ once (map (identityKey home) (used list))
-unfolding numbers
-listed home list e = rw e
-
 pub said-agrees : (home : ℕ) (a b : Option Numbers) → Said home a b → Agrees home a b
 said-agrees home _ _ (same l) = record { keys = refl; good = refl; taken = refl; rises = refl; there = refl }
 said-agrees home _ _ (spelled range list s) = record {
-  keys = sym (once-same (numbers home range) (numbers-once home (some range))) ∙ sym (ap once (s .names)) ∙ sym (listed home list (s .isList));
+  keys = sym (once-same (numbers home range) (numbers-once home (some range))) ∙ sym (ap once (s .names)) ∙ sym (listed-numbers home list (s .isList));
   good = s .good ∙ sym (s .goodList);
   taken = s .taken ∙ sym (s .takenList);
   rises = s .rises ∙ sym (ap (λ (b : Bool). b && crossed (map (identified home) (used list))) (s .isList));

@@ -6,10 +6,11 @@ use Prim.Native.Nat.{ℕ, _≤_}
 use lib.ListN.{length}
 use borrow.Author.Tests.{eq-eqb, ne-eqb}
 use Rattle.rules.specs.Number.{consecutive, numbers, span}
+use Rattle.rules.proofs.InRange.{listed-numbers}
 use Rattle.order.specs.Keys.{fitting, keysAs}
 use Rattle.order.specs.Lists.{numbersAs}
 use Rattle.order.proofs.ListLaws.{nobody}
-use Rattle.order.proofs.RangeLaws.{fitting-all, range-numbers, listed-numbers, listed-few}
+use Rattle.order.proofs.RangeLaws.{fitting-all, ends-numbers, listed-few}
 use borrow.Author.Needs.{needs}
 use Rattle.order.proofs.spelling.keys_of.Statement.{statement}
 use Rattle.order.proofs.spelling.keys_of.Tie as tie
@@ -37,7 +38,7 @@ returns c =
     let first = c .before .before .before .identity-key .ensures in
     let last = c .before .identity-key2 .ensures in
     c .range-keys .ensures ∙ (λ i. keysAs (fitting (a .most) (consecutive (first i) (span (first i) (last i)))))
-    ∙ ap (λ (l : List ℕ). keysAs (fitting (a .most) l)) (sym (range-numbers (a .home) (a .t3) nobody ten (a .code) range))
+    ∙ ap (λ (l : List ℕ). keysAs (fitting (a .most) l)) (sym (ends-numbers (a .home) (a .t3) nobody ten (a .code) range))
 
 listed-keys-requires : tie.Need-listed-keys-requires
 listed-keys-requires c κs = search needs
@@ -50,7 +51,7 @@ returns-2 c =
     let listed = ne-eqb (a .code) 1 (c .before .if1 .left) in
     let all = numbers (a .home) (numbersAs (a .code) (a .t3)) in
     let few : length all ≤ a .most = omega (arith, s .pre .0, listed-few (a .home) (a .t3) nobody ten (a .code) listed) in
-    c .listed-keys .ensures ∙ ap keysAs (sym (listed-numbers (a .home) (a .t3) nobody ten (a .code) listed) ∙ sym (fitting-all (a .most) all few))
+    c .listed-keys .ensures ∙ ap keysAs (sym (listed-numbers (a .home) (numbersAs (a .code) (a .t3)) listed) ∙ sym (fitting-all (a .most) all few))
 
 pub keys-of-spec : {M : Type 1} → statement M
 keys-of-spec =
