@@ -6,7 +6,7 @@ use native.Mathlib.Nat.{mul-le-mul, suc-mul, div-eq-of-lt, mod-eq-of-lt, add-div
 use native.Mathlib.Numerals.{add-one}
 use native.Mathlib.Omega.{arith}
 use lib.Dec.{ltb}
-use lib.ListN.{length, getD, length-append, length-map, List·getD-append}
+use lib.ListN.{length, getD, length-map, List·getD-append}
 use lib.Seq.{getD-append-add}
 use borrow.Author.Tests.{ltb-true, ltb-false}
 use Rattle.rules.specs.Number.{maxNumbers}
@@ -43,15 +43,6 @@ above-over g r (x ∷ gs) rs h = row rs (above-over g r gs rs (h .1))
 pub product-climbs : (gs rs : List ℕ) → Climbs ltb gs → Climbs ltb rs → Climbs belowPair (product gs rs)
 product-climbs [] rs c d = tt
 product-climbs (g ∷ gs) rs c d = row-climbs g rs (product gs rs) d (λ r. above-over g r gs rs (c .0)) (product-climbs gs rs (c .1) d)
-
-pub product-length : (gs rs : List ℕ) → length (product gs rs) ≡ length gs * length rs
-product-length [] rs = omega arith
-product-length (g ∷ gs) rs =
-    let row : List Pair = map (λ (r : ℕ). (g, r)) rs in
-    let n : length row ≡ length rs = length-map rs (λ (r : ℕ). (g, r)) in
-    let all : length (product gs rs) ≡ length gs * length rs = product-length gs rs in
-    let m : suc (length gs) * length rs ≡ length gs * length rs + length rs = suc-mul (length gs) (length rs) in
-    length-append row (product gs rs) ∙ (λ i. n i + all i) ∙ omega (arith, m)
 
 row-at : (g : ℕ) (rs : List ℕ) (j : ℕ) → j < length rs → _≡_ {A = Pair} (getD (map (λ (r : ℕ). (g, r)) rs) j (0, 0)) (g, getD rs j 0)
 row-at g [] j q = absurd (omega arith)

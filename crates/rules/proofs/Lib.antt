@@ -26,6 +26,7 @@ pub mod Anew
 pub mod Visitor
 pub mod LawOrder
 pub mod Steps
+pub mod Room
 pub mod Spelled
 pub mod Recorded
 pub mod Laid

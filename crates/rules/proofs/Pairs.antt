@@ -1,10 +1,12 @@
 -- Pairs' keys: when they are the same, and every group with every radio.
-use Prim.Native.Nat.{ℕ, _+_}
+use Prim.Native.Nat.{ℕ, suc, _+_, _*_}
 use mathlib.Core.Path.{_≡_, refl, sym, _∙_, ap}
 use mathlib.Core.Bool.{Bool, true, false, _&&_}
 use mathlib.Core.List.{List, [], _∷_, _++_, map}
 use lib.Dec.{eqb}
-use lib.ListN.{length, length-append}
+use lib.ListN.{length, length-append, length-map}
+use native.Mathlib.Nat.{suc-mul}
+use native.Mathlib.Omega.{arith}
 use borrow.Author.Tests.{eqb-true}
 use Rattle.rules.specs.Lists.{any, keep, mem, sum}
 use Rattle.rules.specs.Ledger.{Pair, samePair}
@@ -61,3 +63,13 @@ length-product p (g ∷ gs) rs =
     row : (rs : List ℕ) → length (keep p (map (λ (r : ℕ). (g, r)) rs)) ≡ length (keep (λ r. p (g, r)) rs)
     row [] = refl
     row (r ∷ rs) = split (p (g, r)) (λ e. cc (row rs)) (λ e. cc (row rs))
+
+-- every group with every radio
+pub product-length : (gs rs : List ℕ) → length (product gs rs) ≡ length gs * length rs
+product-length [] rs = omega arith
+product-length (g ∷ gs) rs =
+    let row : List Pair = map (λ (r : ℕ). (g, r)) rs in
+    let n : length row ≡ length rs = length-map rs (λ (r : ℕ). (g, r)) in
+    let all : length (product gs rs) ≡ length gs * length rs = product-length gs rs in
+    let m : suc (length gs) * length rs ≡ length gs * length rs + length rs = suc-mul (length gs) (length rs) in
+    length-append row (product gs rs) ∙ (λ i. n i + all i) ∙ omega (arith, m)
