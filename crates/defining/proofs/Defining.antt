@@ -12,7 +12,8 @@ use Rattle.refusal.specs.declared.Refusal.the-variants.{BadOrder, FormNotTaken,
 use Rattle.layout.specs.Frame.{places}
 use Rattle.rules.specs.Lists.{any, rising}
 use Rattle.rules.specs.Entries.{find}
-use Rattle.rules.specs.Number.{key, numbersIn, wideNumber, badList, tooMany, maxNumbers, maxListedOwners}
+use Rattle.rules.specs.Number.{key, wideNumber, badList}
+use Rattle.rules.specs.Named.{numbersIn, tooMany, maxNumbers, maxListedOwners}
 use Rattle.rules.specs.Mark.{begun}
 use Rattle.rules.specs.Parameters.{badName, badParameters}
 use Rattle.rules.specs.Order.{Define, define, defineGroups, defineRadios, defineOwners}

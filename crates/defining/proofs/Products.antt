@@ -9,7 +9,7 @@ use lib.Dec.{ltb}
 use lib.ListN.{length, getD, length-map, List·getD-append}
 use lib.Seq.{getD-append-add}
 use borrow.Author.Tests.{ltb-true, ltb-false}
-use Rattle.rules.specs.Number.{maxNumbers}
+use Rattle.rules.specs.Named.{maxNumbers}
 use Rattle.rules.specs.Ledger.{Pair}
 use Rattle.rules.specs.ByNumber.{belowPair}
 use Rattle.rules.specs.Steps.{product}

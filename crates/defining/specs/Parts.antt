@@ -4,7 +4,8 @@ use mathlib.Core.Bool.{not, _||_}
 use mathlib.Core.List.{List, _∷_}
 use mathlib.Core.Option.{Option}
 use Rattle.rules.specs.Lists.{present, rising}
-use Rattle.rules.specs.Number.{Numbers, key, numbersIn, untaken, badRange, tooMany, maxNumbers, maxListedOwners}
+use Rattle.rules.specs.Number.{Numbers, key, untaken}
+use Rattle.rules.specs.Named.{numbersIn, badRange, tooMany, maxNumbers, maxListedOwners}
 use Rattle.rules.specs.Order.{Define, defineGroups, defineRadios}
 use Rattle.rules.specs.Recorded.{defineOf}
 use Rattle.order.specs.Numbers.{radioNumber}

@@ -38,7 +38,7 @@ ghost use mathlib.Core.Bool.{true};
 ghost use mathlib.Core.Path.{_≡_};
 ghost use Rattle.rules.specs.ByNumber.{lower, belowPair};
 ghost use Rattle.rules.specs.Lists.{rises};
-ghost use Rattle.rules.specs.Number.{maxNumbers};
+ghost use Rattle.rules.specs.Named.{maxNumbers};
 ghost use Rattle.rules.specs.Recorded.{defineOf};
 ghost use Rattle.rules.specs.Refusals.{maxGroups, maxPairs, first, refuses};
 ghost use Rattle.order.specs.Numbers.{radioNumber};

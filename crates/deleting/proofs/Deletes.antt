@@ -10,7 +10,8 @@ use Rattle.refusal.specs.declared.Refusal.{Refusal}
 use Rattle.rules.specs.Lists.{present, mem, join}
 use Rattle.rules.specs.Entries.{alter}
 use Rattle.rules.specs.Mark.{Mark}
-use Rattle.rules.specs.Number.{key, numbersIn, tooMany, maxNumbers}
+use Rattle.rules.specs.Number.{key}
+use Rattle.rules.specs.Named.{numbersIn, tooMany, maxNumbers}
 use Rattle.rules.specs.Order.{Step}
 use Rattle.rules.specs.Effect.{effect}
 use Rattle.rules.specs.Outgoing.{deassign, orders, outgoing}

@@ -7,7 +7,7 @@ use native.Mathlib.Numerals.{add-one}
 use native.Mathlib.Omega.{arith}
 use lib.ListN.{length, getD, set, take, drop, length-append, length-map, length-drop, List·getD-map}
 use lib.Seq.{paste, take-suc, take-at, take-take, length-take-le, getD-drop, getD-take}
-use Rattle.rules.specs.Number.{maxNumbers}
+use Rattle.rules.specs.Named.{maxNumbers}
 use Rattle.rules.specs.Lists.{keep, present}
 use Rattle.rules.specs.Entries.{find}
 use Rattle.rules.specs.Mark.{Mark}

@@ -10,7 +10,8 @@ use Rattle.refusal.specs.declared.Refusal.the-variants.{NothingToDo, NoRoom}
 use Rattle.rules.specs.Lists.{any}
 use Rattle.rules.specs.Entries.{find, alter}
 use Rattle.rules.specs.Mark.{Mark}
-use Rattle.rules.specs.Number.{wideNumber, badList, untaken, badRange, tooMany, maxNumbers}
+use Rattle.rules.specs.Number.{wideNumber, badList, untaken}
+use Rattle.rules.specs.Named.{badRange, tooMany, maxNumbers}
 use Rattle.rules.specs.Ledger.{Group, Pair}
 use Rattle.order.specs.Numbers.{radioNumber}
 use Rattle.order.specs.Lists.{listOf}

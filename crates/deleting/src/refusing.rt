@@ -25,7 +25,7 @@ ghost use mathlib.Core.Bool.{true};
 ghost use mathlib.Core.Path.{_≡_};
 ghost use Rattle.rules.specs.ByNumber.{lower};
 ghost use Rattle.rules.specs.Lists.{rises};
-ghost use Rattle.rules.specs.Number.{numbersIn, maxNumbers};
+ghost use Rattle.rules.specs.Named.{numbersIn, maxNumbers};
 ghost use Rattle.rules.specs.Refusals.{first};
 ghost use Rattle.order.specs.Keys.{fitting, groupsAs, radiosAs, groupKeys, radioKeys};
 ghost use Rattle.order.specs.Lists.{listOf};

@@ -9,7 +9,8 @@ use lib.ListN.{length}
 use Rattle.refusal.specs.declared.Refusal.{Refusal}
 use Rattle.layout.specs.declared.Record.{Record}
 use Rattle.rules.specs.Lists.{mem}
-use Rattle.rules.specs.Number.{Number, key, wideNumber, numbers}
+use Rattle.rules.specs.Number.{Number, key, wideNumber}
+use Rattle.rules.specs.Named.{numbers}
 use Rattle.rules.specs.Order.{Delete, define, delete, defineGroups}
 use Rattle.rules.specs.Recorded.{defineOf}
 use Rattle.rules.specs.Ledger.{list}

@@ -7,7 +7,6 @@ use Prim.Native.Nat.{ℕ}
 use lib.ListN.{length}
 use Rattle.refusal.specs.declared.Refusal.the-variants.{NotWritten}
 use Rattle.rules.specs.Order.{Step}
-use Rattle.rules.specs.Outgoing.{Outgoing}
 use Rattle.rules.specs.Refusals.{accepted}
 use Rattle.rules.specs.Spelled as law
 use Rattle.rules.proofs.Spelled.{as-listed}

@@ -5,7 +5,7 @@ use mathlib.Core.List.{List}
 use native.Mathlib.Omega.{arith}
 use lib.ListN.{length, take, replicate, length-take}
 use lib.Seq.{take-append-seam}
-use Rattle.rules.specs.Number.{maxNumbers}
+use Rattle.rules.specs.Named.{maxNumbers}
 use Rattle.rules.specs.Lists.{inOrder}
 use Rattle.rules.proofs.ListLaws.{length-order}
 use Rattle.order.specs.Keys.{placed, keysAs, groupsAs, radiosAs, ownersAs, groupKeys, radioKeys, ownersHeld}

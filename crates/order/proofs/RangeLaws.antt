@@ -8,7 +8,8 @@ use native.Mathlib.Omega.{arith}
 use lib.Dec.{eqb, ltb, leb}
 use lib.ListN.{length, getD, length-map, length-take}
 use borrow.Author.Tests.{eqb-true, ltb-false, leb-true, leb-false, lt-ltb, le-ltb}
-use Rattle.rules.specs.Number.{count, used, identified, identityKey, consecutive, numbers, numbersIn, crossed, badRange, tooMany, span}
+use Rattle.rules.specs.Number.{count, used, identified, identityKey}
+use Rattle.rules.specs.Named.{consecutive, numbers, numbersIn, crossed, badRange, tooMany, span}
 use Rattle.rules.specs.Number as number
 use Rattle.rules.proofs.Tests.{split}
 use Rattle.rules.proofs.ListLaws.{Once, length-once}

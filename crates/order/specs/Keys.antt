@@ -4,7 +4,7 @@ use mathlib.Core.Bool.{cond}
 use mathlib.Core.List.{List, []}
 use lib.Dec.{ltb}
 use lib.ListN.{length, take, replicate}
-use Rattle.rules.specs.Number.{maxNumbers}
+use Rattle.rules.specs.Named.{maxNumbers}
 use Rattle.rules.specs.Written.{maxOwners}
 use Rattle.order.specs.Walks.{onto}
 use Rattle.order.specs.declared.KeyList.{KeyList}

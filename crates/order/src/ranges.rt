@@ -12,7 +12,8 @@ ghost use lib.Dec.{ltb};
 ghost use mathlib.Core.List.{[], _∷_};
 ghost use mathlib.Core.Option.{some};
 ghost use mathlib.Core.Path.{_≡_};
-ghost use Rattle.rules.specs.Number.{identified, span, crossed, badRange, tooMany, maxNumbers, maxListedOwners};
+ghost use Rattle.rules.specs.Number.{identified};
+ghost use Rattle.rules.specs.Named.{span, crossed, badRange, tooMany, maxNumbers, maxListedOwners};
 ghost use Rattle.rows.specs.Layout.{maxListed};
 ghost use Rattle.order.specs.Lists.{identityOf, numbersAs, listOf};
 

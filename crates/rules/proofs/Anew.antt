@@ -6,7 +6,8 @@ use mathlib.Core.List.{[], _∷_}
 use mathlib.Core.Option.{Option, none, some}
 use native.Mathlib.Omega.{arith}
 use Rattle.rules.specs.Lists.{present, mem}
-use Rattle.rules.specs.Number.{Number, key, wideNumber, numbersIn}
+use Rattle.rules.specs.Number.{Number, key, wideNumber}
+use Rattle.rules.specs.Named.{numbersIn}
 use Rattle.rules.specs.Parameters.{noParameters, replaced}
 use Rattle.rules.specs.Mark.{Mark, begun}
 use Rattle.rules.specs.Order.{Define, Delete, Step, define, delete, defineGroups, defineRadios, defineOwners, deleteGroups}

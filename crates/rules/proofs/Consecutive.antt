@@ -8,7 +8,7 @@ use lib.ListN.{length}
 use native.Mathlib.Omega.{arith}
 use borrow.Author.Tests.{eqb-true, eqb-false}
 use Rattle.rules.specs.Lists.{mem, once, Above, Rising}
-use Rattle.rules.specs.Number.{consecutive}
+use Rattle.rules.specs.Named.{consecutive}
 use Rattle.rules.proofs.Tests.{split, clash}
 use Rattle.rules.proofs.ListLaws.{once-same, once-rising}
 

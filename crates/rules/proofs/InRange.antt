@@ -9,8 +9,9 @@ use lib.ListN.{length}
 use native.Mathlib.Omega.{arith}
 use borrow.Author.Tests.{eqb-true, ltb-false, leb-true, eq-eqb, le-leb, not-false}
 use Rattle.rules.specs.Lists.{mem, once, Rising}
-use Rattle.rules.specs.Number.{Number, Identity, Numbers, used, key, identified, identityKey, consecutive, span, range, numbers}
-use Rattle.rules.specs.Number.{wideNumber, crossed, badRange}
+use Rattle.rules.specs.Number.{Number, Identity, Numbers, used, key, identified, identityKey}
+use Rattle.rules.specs.Named.{consecutive, span, range, numbers, crossed, badRange}
+use Rattle.rules.specs.Number.{wideNumber}
 use Rattle.rules.proofs.Tests.{both-ways, and-in, and-l, and-r, or-l, or-r}
 use Rattle.rules.proofs.Keys.{narrow}
 use Rattle.rules.proofs.Consecutive.{consecutive-mem, consecutive-in, consecutive-length, consecutive-rises, consecutive-once}

@@ -4,7 +4,8 @@ use mathlib.Core.Path.{_≡_, refl}
 use mathlib.Core.Bool.{true, false}
 use mathlib.Core.List.{[], _∷_}
 use mathlib.Core.Option.{Option, some}
-use Rattle.rules.specs.Number.{Identity, Numbers, key, plain, numbers, numbersIn, badRange, tooMany, maxNumbers, maxListedOwners}
+use Rattle.rules.specs.Number.{Identity, Numbers, key, plain}
+use Rattle.rules.specs.Named.{numbers, numbersIn, badRange, tooMany, maxNumbers, maxListedOwners}
 
 -- an identity that is a plain SSI, and one with its extension
 abbrev short : ℕ → Identity

@@ -9,8 +9,9 @@ use lib.ListN.{length}
 use native.Mathlib.Omega.{arith}
 use borrow.Author.Tests.{eqb-true, eqb-false, leb-false, le-leb, lt-leb, lt-ltb}
 use Rattle.rules.specs.Lists.{any, mem, once}
-use Rattle.rules.specs.Number.{Identity, Numbers, used, identified, identityKey, span, range, spelled, numbers, numbersIn}
-use Rattle.rules.specs.Number.{wide, wideNumber, keyLimit, wideKey, badIdentity, badList, untaken, maxListedOwners}
+use Rattle.rules.specs.Number.{Identity, Numbers, used, identified, identityKey}
+use Rattle.rules.specs.Named.{span, range, spelled, numbers, numbersIn, maxListedOwners}
+use Rattle.rules.specs.Number.{wide, wideNumber, keyLimit, wideKey, badIdentity, badList, untaken}
 use Rattle.rules.specs.Parameters.{Parameters, over, replaced, tooLarge, badName, badParameters}
 use Rattle.rules.specs.Mark.{Mark, waiting, T1, begun, ticked}
 use Rattle.rules.specs.Placing.{Placing, Lawful}

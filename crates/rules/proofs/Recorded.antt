@@ -6,7 +6,8 @@ use mathlib.Core.List.{List, [], _∷_, _++_}
 use mathlib.Core.Option.{some}
 use lib.ListN.{length, getD, replicate}
 use native.Mathlib.Omega.{arith}
-use Rattle.rules.specs.Number.{Number, Identity, plain, key, numbers}
+use Rattle.rules.specs.Number.{Number, Identity, plain, key}
+use Rattle.rules.specs.Named.{numbers}
 use Rattle.rules.specs.Parameters.{Parameters, noParameters}
 use Rattle.rules.specs.Order.{Define, defineGroups, defineRadios, defineOwners}
 use Rattle.rules.specs.Recorded.{identityAt, identitiesAt, numbersAt, parametersIn, defineOf}

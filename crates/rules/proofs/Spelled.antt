@@ -10,8 +10,9 @@ use lib.Seq.{take-all}
 use native.Mathlib.Omega.{arith}
 use borrow.Author.Tests.{eqb-true, le-ltb}
 use Rattle.rules.specs.Lists.{any, mem, once, present}
-use Rattle.rules.specs.Number.{Identity, Numbers, count, used, identified, identityKey, numbers, numbersIn}
-use Rattle.rules.specs.Number.{wide, wideKey, badIdentity, badList, untaken, crossed, badRange}
+use Rattle.rules.specs.Number.{Identity, Numbers, count, used, identified, identityKey}
+use Rattle.rules.specs.Named.{numbers, numbersIn, crossed, badRange}
+use Rattle.rules.specs.Number.{wide, wideKey, badIdentity, badList, untaken}
 use Rattle.rules.specs.Order.{Step}
 use Rattle.rules.specs.World.{World, Tally}
 use Rattle.rules.specs.Effect.{Effect, effect}

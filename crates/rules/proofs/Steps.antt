@@ -9,7 +9,8 @@ use lib.ListN.{length}
 use borrow.Author.Tests.{eqb-true}
 use Rattle.rules.specs.Lists.{keep, present, sum}
 use Rattle.rules.specs.Entries.{find}
-use Rattle.rules.specs.Number.{Numbers, used, identityKey, spelled, numbers, numbersIn}
+use Rattle.rules.specs.Number.{Numbers, used, identityKey}
+use Rattle.rules.specs.Named.{spelled, numbers, numbersIn}
 use Rattle.rules.specs.Mark.{Mark, begun}
 use Rattle.rules.specs.Order.{Define, define, defineGroups, defineRadios}
 use Rattle.rules.specs.Effect.{Effect, effect}

@@ -10,7 +10,8 @@ use borrow.Author.Tests.{eqb-true, ltb-false, leb-true, le-leb, not-true}
 use Rattle.refusal.specs.declared.Refusal.{Refusal}
 use Rattle.rules.specs.Lists.{any, all, present, turned, mem}
 use Rattle.rules.specs.Entries.{find}
-use Rattle.rules.specs.Number.{key, wide, wideNumber, wideKey, badList, untaken, badRange, maxNumbers, maxListedOwners, tooMany, numbersIn}
+use Rattle.rules.specs.Number.{key, wide, wideNumber, wideKey, badList, untaken}
+use Rattle.rules.specs.Named.{badRange, maxNumbers, maxListedOwners, tooMany, numbersIn}
 use Rattle.rules.specs.Parameters.{noParameters, replaced, badParameters}
 use Rattle.rules.specs.Mark.{Mark, fresh, confirmed, ticked}
 use Rattle.rules.specs.Order.{Define, Delete, Answer, Step, define, delete, answer, tick, defineGroups, deleteGroups, leaves}

@@ -1,6 +1,7 @@
 pub mod Lists
 pub mod Entries
 pub mod Number
+pub mod Named
 pub mod Parameters
 pub mod Mark
 pub mod Order

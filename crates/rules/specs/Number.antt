@@ -1,11 +1,12 @@
--- Numbers as an order carries them: identities and lists of identities; and the key by which the ledger knows a number.
-use Prim.Native.Nat.{ℕ, zero, suc, _+_, _-_, _*_, _/_, _%_, _^_}
-use mathlib.Core.Bool.{Bool, false, cond, not, _&&_, _||_}
-use mathlib.Core.List.{List, [], _∷_, map}
+-- Numbers as an order carries them: identities and lists of identities; and the key by which the ledger knows a number. What a list names
+-- is in Named.
+use Prim.Native.Nat.{ℕ, _+_, _*_, _/_, _%_, _^_}
+use mathlib.Core.Bool.{Bool, false, cond, _&&_, _||_}
+use mathlib.Core.List.{List}
 use mathlib.Core.Option.{Option, none, some}
 use lib.Dec.{eqb, ltb, leb}
-use lib.ListN.{length, take}
-use Rattle.rules.specs.Lists.{any, once}
+use lib.ListN.{take}
+use Rattle.rules.specs.Lists.{any}
 
 -- a number as it is handed over; the extension is country and network code
 pub record Number : Type 0 where
@@ -55,7 +56,7 @@ sameNumber a b = eqb (a .ssi) (b .ssi) && eqb (a .extension) (b .extension)
 abbrev pub belowNumber : Number → Number → Bool
 belowNumber a b = ltb (a .extension) (b .extension) || (eqb (a .extension) (b .extension) && ltb (a .ssi) (b .ssi))
 
--- ---- lists; `home` is the asker's extension ----
+-- ---- identities; `home` is the asker's extension ----
 
 -- "plain SSI takes the asker's"
 abbrev pub plain : ℕ → ℕ → Number
@@ -68,34 +69,6 @@ identified home i = cond (eqb (i .form) 2) (record { ssi = i .ssi; extension = i
 -- and its key
 abbrev pub identityKey : ℕ → Identity → ℕ
 identityKey home i = key (identified home i)
-
--- so many keys in a row, from the first on
-abbrev pub consecutive : ℕ → ℕ → List ℕ
-consecutive first zero = []
-consecutive first (suc n) = first ∷ consecutive (suc first) n
-
--- how many there are from a first to a last: "both ends count"
-abbrev pub span : ℕ → ℕ → ℕ
-span first last = suc last - first
-
--- a range, by its first and its last: all of these, "in rising order"
-abbrev pub range : List ℕ → List ℕ
-range [] = []
-range (first ∷ []) = []
-range (first ∷ last ∷ more) = consecutive first (span first last)
-
--- what a list says of its keys: number type 1 names all of a range, any other the keys themselves
-abbrev pub spelled : ℕ → List ℕ → List ℕ
-spelled code keys = cond (eqb code 1) (range keys) keys
-
--- the keys of a list: "A number listed twice counts once, at its first place"
-unfoldable pub numbers : ℕ → Numbers → List ℕ
-numbers home n = once (spelled (n .code) (map (identityKey home) (used n)))
-
--- those of a list that may be missing
-abbrev pub numbersIn : ℕ → Option Numbers → List ℕ
-numbersIn home none = []
-numbersIn home (some n) = numbers home n
 
 -- ---- what is out of range ----
 
@@ -128,24 +101,3 @@ badList (some n) = ltb 10 (n .code) || any badIdentity (used n)
 abbrev pub untaken : Option Numbers → Bool
 untaken none = false
 untaken (some n) = any (λ (i : Identity). eqb (i .form) 0) (used n)
-
--- "first above last or extensions differ"
-abbrev pub crossed : List Number → Bool
-crossed [] = false
-crossed (first ∷ []) = false
-crossed (first ∷ last ∷ more) = ltb (last .ssi) (first .ssi) || not (eqb (first .extension) (last .extension))
-
-abbrev pub badRange : ℕ → Option Numbers → Bool
-badRange home none = false
-badRange home (some n) = eqb (n .code) 1 && crossed (map (identified home) (used n))
-
--- "At most 64 numbers for groups and radios, 10 for owners"
-abbrev pub maxNumbers : ℕ
-maxNumbers = 64
-
-abbrev pub maxListedOwners : ℕ
-maxListedOwners = 10
-
--- "too many numbers"
-abbrev pub tooMany : ℕ → ℕ → Option Numbers → Bool
-tooMany most home l = ltb most (length (numbersIn home l))

@@ -5,7 +5,8 @@ use mathlib.Core.List.{List, _∷_}
 use mathlib.Core.Option.{Option}
 use Rattle.layout.specs.declared.Judged.{Judged}
 use Rattle.rules.specs.Lists.{present, mem, once}
-use Rattle.rules.specs.Number.{Number, Numbers, key, numbers, numbersIn}
+use Rattle.rules.specs.Number.{Number, Numbers, key}
+use Rattle.rules.specs.Named.{numbers, numbersIn}
 use Rattle.rules.specs.Parameters.{Parameters}
 
 -- judged: what the frame half says of the DEFINE record. call: call related.

@@ -13,7 +13,8 @@ use Rattle.refusal.specs.declared.Refusal.the-variants.{NotOpen, NothingToDo, F
 use Rattle.layout.specs.declared.Judged.{Judged}
 use Rattle.layout.specs.declared.Judged.the-variants.{Writable, Refused}
 use Rattle.rules.specs.Lists.{any, present}
-use Rattle.rules.specs.Number.{Number, key, wideNumber, badList, untaken, badRange, maxNumbers, maxListedOwners, tooMany}
+use Rattle.rules.specs.Number.{Number, key, wideNumber, badList, untaken}
+use Rattle.rules.specs.Named.{badRange, maxNumbers, maxListedOwners, tooMany}
 use Rattle.rules.specs.Parameters.{badParameters}
 use Rattle.rules.specs.Mark.{open?}
 use Rattle.rules.specs.Order.{Define, Step, define, delete, answer, tick, defineGroups, deleteGroups}

@@ -7,7 +7,8 @@ use mathlib.Core.Option.{Option, some}
 use Prim.Native.Nat.{ℕ}
 use lib.Dec.{eqb}
 use lib.ListN.{length}
-use Rattle.rules.specs.Number.{Identity, Numbers, ssiOf, extensionOf, used, identityKey, numbers, badList, untaken, badRange}
+use Rattle.rules.specs.Number.{Identity, Numbers, ssiOf, extensionOf, used, identityKey, badList, untaken}
+use Rattle.rules.specs.Named.{numbers, badRange}
 use Rattle.rules.specs.Order.{Define, Delete, Step, define, delete}
 use Rattle.rules.specs.Ledger.{Ledger}
 use Rattle.rules.specs.Placing.{Placing}

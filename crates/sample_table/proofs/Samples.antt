@@ -8,7 +8,8 @@ use Rattle.layout.specs.Write.{lay, vals, emit}
 use Rattle.layout.specs.Shape.{repeated, rowsOf, span, unrolled, spans}
 use Rattle.layout.specs.Kinds.{tableOf}
 use Rattle.layout.specs.Frame.{rows, head, read, readBytes, asReading, readingOf, write, judgedOf, writtenOf, outputOf}
-use Rattle.rules.specs.Number.{key, numbers}
+use Rattle.rules.specs.Number.{key}
+use Rattle.rules.specs.Named.{numbers}
 use Rattle.rules.specs.Recorded.{numbersAt, parametersIn, defineOf}
 use Rattle.sample_table.specs.Samples.{samples, passes}
 

@@ -4,7 +4,7 @@ use native.Mathlib.Omega.{arith}
 use Prim.Native.Nat.{_≤_}
 use lib.ListN.{length}
 use lib.Seq.{length-take-le}
-use Rattle.rules.specs.Number.{maxNumbers}
+use Rattle.rules.specs.Named.{maxNumbers}
 use Rattle.turning.proofs.Fronts.{front, whole}
 use Rattle.order.proofs.KeyLaws.{few-groups, few-radios}
 use borrow.Author.Needs.{needs}

@@ -2,7 +2,7 @@
 use mathlib.Core.Path.{_≡_, refl, ap, _∙_}
 use lib.ListN.{length}
 use native.Mathlib.Omega.{arith}
-use Rattle.rules.specs.Number.{maxNumbers}
+use Rattle.rules.specs.Named.{maxNumbers}
 use Rattle.rules.specs.Lists.{inOrder}
 use Rattle.order.specs.Keys.{groupKeys, radioKeys}
 use Rattle.order.proofs.KeyLaws.{few-groups, group-keys, radio-keys}

@@ -4,7 +4,8 @@ use mathlib.Core.Bool.{Bool, true, false, cond, not}
 use mathlib.Core.List.{_∷_}
 use mathlib.Core.Option.{Option, none, some}
 use Rattle.rules.specs.Lists.{present, rising}
-use Rattle.rules.specs.Number.{Numbers, key, numbersIn, maxNumbers, maxListedOwners}
+use Rattle.rules.specs.Number.{Numbers, key}
+use Rattle.rules.specs.Named.{numbersIn, maxNumbers, maxListedOwners}
 use Rattle.rules.specs.Recorded.{defineOf}
 use Rattle.order.specs.Numbers.{radioNumber}
 use Rattle.order.specs.Keys.{fitting, groupsAs, radiosAs, ownersAs}

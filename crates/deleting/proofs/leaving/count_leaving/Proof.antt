@@ -3,7 +3,7 @@ use mathlib.Core.Path.{_≡_, sym}
 use native.Mathlib.Omega.{arith}
 use lib.ListN.{length}
 use borrow.Author.Tests.{not-true, not-false}
-use Rattle.rules.specs.Number.{maxNumbers}
+use Rattle.rules.specs.Named.{maxNumbers}
 use Rattle.order.proofs.KeyLaws.{few-radios}
 use Rattle.deleting.proofs.LeavingLaws.{Spans, spans}
 use borrow.Author.Needs.{needs}

@@ -6,7 +6,7 @@ use mathlib.Core.List.{List, []}
 use lib.ListN.{length}
 use lib.Seq.{paste, paste-zero, length-take-le}
 use borrow.Author.Tests.{not-true, not-false}
-use Rattle.rules.specs.Number.{maxNumbers}
+use Rattle.rules.specs.Named.{maxNumbers}
 use Rattle.order.specs.Keys.{radioKeys}
 use Rattle.order.proofs.KeyLaws.{few-radios}
 use Rattle.store.specs.Storage.{pairsOf}

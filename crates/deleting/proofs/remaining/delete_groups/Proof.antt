@@ -5,7 +5,7 @@ use Prim.Native.Nat.{_≤_}
 use lib.ListN.{length}
 use lib.Seq.{length-take-le}
 use borrow.Author.Tests.{not-true, not-false}
-use Rattle.rules.specs.Number.{maxNumbers}
+use Rattle.rules.specs.Named.{maxNumbers}
 use Rattle.order.proofs.KeyLaws.{few-groups}
 use Rattle.store.specs.Storage.{groupOf, groupRow}
 use Rattle.store.proofs.Rows.{length-items, lay-plain}

@@ -2,7 +2,7 @@
 use native.Mathlib.Omega.{arith}
 use mathlib.Core.Path.{_≡_}
 use lib.ListN.{length, length-take}
-use Rattle.rules.specs.Number.{maxNumbers}
+use Rattle.rules.specs.Named.{maxNumbers}
 use Rattle.order.proofs.KeyLaws.{cut-fits, cut-length, cut-sorted}
 use borrow.Author.Needs.{needs}
 use Rattle.order.proofs.keys.radios_rising.Statement.{statement}

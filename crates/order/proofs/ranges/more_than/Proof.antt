@@ -2,7 +2,7 @@
 use mathlib.Core.Path.{_≡_, _∙_}
 use lib.Dec.{ltb}
 use lib.ListN.{length}
-use Rattle.rules.specs.Number.{span}
+use Rattle.rules.specs.Named.{span}
 use Rattle.order.proofs.ListLaws.{nobody}
 use Rattle.order.proofs.RangeLaws.{range-long}
 use borrow.Author.Needs.{needs}

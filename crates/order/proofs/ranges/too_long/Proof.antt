@@ -2,7 +2,7 @@
 use mathlib.Core.Path.{sym}
 use native.Mathlib.Omega.{arith}
 use borrow.Author.Tests.{le-ltb}
-use Rattle.rules.specs.Number.{span}
+use Rattle.rules.specs.Named.{span}
 use Rattle.order.proofs.RangeLaws.{longer}
 use Rattle.order.proofs.ranges.too_long.Statement.{statement}
 use Rattle.order.proofs.ranges.too_long.Tie as tie

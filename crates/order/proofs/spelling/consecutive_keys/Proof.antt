@@ -5,7 +5,7 @@ use native.Mathlib.Numerals.{add-one}
 use Prim.Native.Nat.{_+_, _-_, _≤_, _<_}
 use lib.ListN.{length, take, drop, replicate, set, length-set}
 use lib.Seq.{take-suc-set}
-use Rattle.rules.specs.Number.{consecutive, maxNumbers}
+use Rattle.rules.specs.Named.{consecutive, maxNumbers}
 use Rattle.rules.proofs.Consecutive.{consecutive-more}
 use Rattle.order.proofs.ListLaws.{rest-blank, keys-whole}
 use borrow.Author.Needs.{needs}

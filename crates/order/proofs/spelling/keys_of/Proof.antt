@@ -5,7 +5,7 @@ use native.Mathlib.Omega.{arith}
 use Prim.Native.Nat.{ℕ, _≤_}
 use lib.ListN.{length}
 use borrow.Author.Tests.{eq-eqb, ne-eqb}
-use Rattle.rules.specs.Number.{consecutive, numbers, span}
+use Rattle.rules.specs.Named.{consecutive, numbers, span}
 use Rattle.rules.proofs.InRange.{listed-numbers}
 use Rattle.order.specs.Keys.{fitting, keysAs}
 use Rattle.order.specs.Lists.{numbersAs}

@@ -4,7 +4,7 @@ use mathlib.Core.List.{List, []}
 use native.Mathlib.Omega.{arith}
 use Prim.Native.Nat.{ℕ, _+_, _-_, _≤_, _<_}
 use lib.ListN.{length}
-use Rattle.rules.specs.Number.{consecutive, span}
+use Rattle.rules.specs.Named.{consecutive, span}
 use Rattle.rules.proofs.Consecutive.{consecutive-length}
 use Rattle.order.specs.Keys.{fitting, keysAs}
 use Rattle.order.proofs.RangeLaws.{fitting-all, fitting-none}
