@@ -40,14 +40,14 @@ pub data Sample : Type 0 where
 abbrev sna : ℕ → List ℕ
 sna n = 1 ∷ n ∷ 0 ∷ 0 ∷ []
 
-abbrev ssi : ℕ → List ℕ
+abbrev pub ssi : ℕ → List ℕ
 ssi n = 2 ∷ 0 ∷ n ∷ 0 ∷ []
 
 abbrev extended : ℕ → ℕ → List ℕ
 extended n e = 3 ∷ 0 ∷ n ∷ e ∷ []
 
 -- a list: its number type, held one up, and room for ten identities
-abbrev listed : ℕ → List ℕ → List ℕ
+abbrev pub listed : ℕ → List ℕ → List ℕ
 listed type identities = suc type ∷ identities ++ replicate (40 - length identities) 0
 
 abbrev one : List ℕ → List ℕ
@@ -62,7 +62,7 @@ abbrev assign : List ℕ → List ℕ
 assign radios = 1 ∷ replicate (assignment - setReference) 0 ++ (1 ∷ Yes ∷ radios) ++ (1 ∷ Yes ∷ [])
 
 -- asker 1 of extension x defines group 5 and assigns radios, with room for so many outgoing orders
-abbrev assignsAll : ℕ → List ℕ → ℕ → Step
+abbrev pub assignsAll : ℕ → List ℕ → ℕ → Step
 assignsAll x radios room = define (defineOf (plain x 1) (group 5 ++ assign radios)) room
 
 -- he assigns radio 9
