@@ -18,6 +18,7 @@ use Rattle.rules.specs.Mark.{Mark}
 use Rattle.rules.specs.Ledger.{Pair, view, members, list}
 use Rattle.rules.specs.Listing.{gathered}
 use Rattle.rules.proofs.Listing.{listed-members}
+use Rattle.rules.proofs.LawOrder.{first-none}
 use Rattle.order.specs.Numbers.{radioNumber, groupNumber}
 use Rattle.order.specs.declared.Gtsi.{Gtsi}
 use Rattle.order.specs.declared.Itsi.{Itsi}
@@ -34,7 +35,7 @@ use Rattle.replies.specs.Listing.{entryRow, membersOf, Enumerates}
 use Rattle.replies.specs.declared.Reply.{Reply}
 use Rattle.replies.specs.declared.Reply.the-variants.{Done, Refused}
 use Rattle.replies.specs.declared.Members.the-variants as members
-use Rattle.replies.proofs.Orders.{first-none, first-some, reply-some, count-pairs}
+use Rattle.replies.proofs.Orders.{first-some, reply-some, count-pairs}
 use Rattle.asking.specs.Copied.{InStretch, listed, copied}
 use Rattle.asking.proofs.Asking.{asked-none}
 use Rattle.order.proofs.Walks.{map-left}

@@ -33,6 +33,7 @@ use Rattle.rules.proofs.Effects.{Standing}
 use Rattle.rules.proofs.Written.{written-form}
 use Rattle.rules.proofs.Sound.{bad-order}
 use Rattle.rules.proofs.Steps.{define-lists, define-groups-total, define-pairs-total}
+use Rattle.rules.proofs.LawOrder.{first-none}
 use Rattle.order.specs.Keys.{fitting}
 use Rattle.order.specs.Row.{orderRowOf}
 use Rattle.order.specs.Steps.{defineStep}
@@ -47,7 +48,7 @@ use Rattle.store.specs.declared.Standing.the-variants.{Taken}
 use Rattle.store.proofs.FormLaws.{law-form}
 use Rattle.replies.specs.Orders.{replyOf, verdict}
 use Rattle.replies.specs.declared.Reply.the-variants.{Done, Refused}
-use Rattle.replies.proofs.Orders.{first-none, first-some, reply-none, reply-some, tests-pass}
+use Rattle.replies.proofs.Orders.{first-some, reply-none, reply-some, tests-pass}
 use Rattle.defining.specs.Parts.{faultsOf, ownersNamed}
 use Rattle.defining.specs.Carried.{carried}
 use Rattle.defining.specs.Sent.{assignOrders}

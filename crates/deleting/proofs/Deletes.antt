@@ -21,6 +21,7 @@ use Rattle.rules.specs.Steps.{tally, apply, refused}
 use Rattle.rules.proofs.Walks.{alter-all}
 use Rattle.rules.proofs.Listing.{stretch-members}
 use Rattle.rules.proofs.Tests.{or-l, or-r}
+use Rattle.rules.proofs.LawOrder.{first-none}
 use Rattle.order.specs.Numbers.{radioNumber}
 use Rattle.order.specs.Keys.{fitting}
 use Rattle.order.proofs.RangeLaws.{passed-whole}
@@ -36,7 +37,7 @@ use Rattle.store.proofs.FormLaws.{pairs-rise}
 use Rattle.replies.specs.Orders.{replyOf, verdict}
 use Rattle.replies.specs.declared.Reply.{Reply}
 use Rattle.replies.specs.declared.Reply.the-variants.{Done, Refused}
-use Rattle.replies.proofs.Orders.{set-both, first-none, first-some, reply-none, reply-some, alter-same, tests-pass}
+use Rattle.replies.proofs.Orders.{set-both, first-some, reply-none, reply-some, alter-same, tests-pass}
 use Rattle.turning.specs.Turns.{turnOf}
 use Rattle.deleting.specs.Leaving.{among, leaving, leavingOrders}
 use Rattle.deleting.specs.Deletes.{formTests, standTests, deleteTurn, groupsLeft, pairsLeft}

@@ -17,7 +17,7 @@ use Rattle.store.specs.Form.{isWritten}
 use Rattle.replies.specs.Orders.{verdict, contentsAfter}
 use Rattle.replies.specs.Sending.{orderRow, sentOn, sentReply, Sends}
 use Rattle.replies.specs.declared.Sent.{Sent}
-use Rattle.demand.specs.Spelled.{Alike, AsListed}
+use Rattle.demand.specs.Spelled.{SameOutcome, ReadAsListed}
 use Rattle.demand.proofs.Calls.{define-says, delete-says}
 
 module _ (c : Contents) (s s′ : Step) (a : law.AsListed s s′) where
@@ -36,7 +36,7 @@ module _ (c : Contents) (s s′ : Step) (a : law.AsListed s s′) where
 -- what two calls that send came to
 module _ (c : Contents) (step step′ : ℕ → Step) (room : Rows) (a : law.AsListed (step (length room)) (step′ (length room))) where
   same-call : {sent sent′ : Rows} {after after′ : Contents} {reply reply′ : Sent} → Sends step room sent c after reply
-      → Sends step′ room sent′ c after′ reply′ → Alike reply reply′ after after′ sent sent′
+      → Sends step′ room sent′ c after′ reply′ → SameOutcome reply reply′ after after′ sent sent′
   same-call k k′ =
       let verdicts = same-verdict c (step (length room)) (step′ (length room)) a in
       let orders = same-sent c (step (length room)) (step′ (length room)) a in
@@ -46,7 +46,7 @@ module _ (c : Contents) (step step′ : ℕ → Step) (room : Rows) (a : law.AsL
         sends = k .sends ∙ (λ i. onto (map orderRow (orders i)) room) ∙ sym (k′ .sends);
       }
 
-pub range-as-listed : (c : Contents) (room : Rows) → AsListed c room
+pub range-as-listed : (c : Contents) (room : Rows) → ReadAsListed c room
 range-as-listed c room = record {
   defines = λ {asker} {values} {values′} a k k′.
       same-call c (defineStep asker (values .place)) (defineStep asker (values′ .place)) room a (define-says k) (define-says k′);

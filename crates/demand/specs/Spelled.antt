@@ -14,18 +14,18 @@ use Rattle.replies.specs.declared.Sent.{Sent}
 use Rattle.demand.specs.Calls.{Defines, Deletes}
 
 -- what two calls came to is the same
-pub record Alike (reply reply′ : Sent) (after after′ : Contents) (sent sent′ : Rows) : Type 0 where
+pub record SameOutcome (reply reply′ : Sent) (after after′ : Contents) (sent sent′ : Rows) : Type 0 where
   pub replies : reply ≡ reply′
   pub leaves : after ≡ after′
   pub sends : sent ≡ sent′
 
-pub record AsListed (c : Contents) (room : Rows) : Type 0 where
+pub record ReadAsListed (c : Contents) (room : Rows) : Type 0 where
   pub defines : {asker : Itsi} {values values′ : Record} {sent sent′ : Rows} {after after′ : Contents} {reply reply′ : Sent}
       → law.AsListed (defineStep asker (values .place) (length room)) (defineStep asker (values′ .place) (length room))
       → Defines asker values room sent c after reply → Defines asker values′ room sent′ c after′ reply′
-      → Alike reply reply′ after after′ sent sent′
+      → SameOutcome reply reply′ after after′ sent sent′
   pub deletes : {asker : Itsi} {named named′ : Numbers} {remove deassign : Bool} {radios radios′ : Listed} {sent sent′ : Rows}
       {after after′ : Contents} {reply reply′ : Sent}
       → law.AsListed (deleteStep asker named remove deassign radios (length room)) (deleteStep asker named′ remove deassign radios′ (length room))
       → Deletes asker named remove deassign radios room sent c after reply → Deletes asker named′ remove deassign radios′ room sent′ c after′ reply′
-      → Alike reply reply′ after after′ sent sent′
+      → SameOutcome reply reply′ after after′ sent sent′

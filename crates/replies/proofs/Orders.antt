@@ -67,14 +67,6 @@ tests-pass (t ∷ l) e (suc i) = tests-pass l (go (t .1) e) i
     go false q = q
 
 -- tests and further tests
-pub first-none : (a b : List (Refusal × Bool)) → first a ≡ none → first (a ++ b) ≡ first b
-first-none [] b e = refl
-first-none (t ∷ a) b e = go (t .1) (first-none a b) e
-  where
-    go : (x : Bool) → (first a ≡ none → first (a ++ b) ≡ first b) → cond x (some (t .0)) (first a) ≡ none → cond x (some (t .0)) (first (a ++ b)) ≡ first b
-    go true h e = let z : _≡_ {A = ℕ} 0 1 = cc in absurd (omega arith)
-    go false h e = h e
-
 pub first-some : (a b : List (Refusal × Bool)) (r : Refusal) → first a ≡ some r → first (a ++ b) ≡ some r
 first-some [] b r e = let z : _≡_ {A = ℕ} 0 1 = cc in absurd (omega arith)
 first-some (t ∷ a) b r e = go (t .1) (first-some a b r) e

@@ -1,5 +1,5 @@
 -- Keys and numbers: a key has both parts of its number, keys are the same where both parts are, and they rise by extension, then SSI.
-use Prim.Native.Nat.{ℕ, _+_, _*_, _/_, _%_, _^_, _<_}
+use Prim.Native.Nat.{ℕ, _/_, _%_, _^_, _<_}
 use mathlib.Core.Path.{_≡_}
 use mathlib.Core.Bool.{false}
 use lib.Dec.{eqb, ltb}

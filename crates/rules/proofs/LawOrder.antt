@@ -1,15 +1,17 @@
--- The tests of every order stand in the law's order: their numbers are those of the law's order that the order has, one after another.
+-- The tests of every order stand in the law's order: their numbers are those of it that the order has, one after another. And tests behind tests.
 use Prim.Native.Nat.{ℕ}
 use mathlib.Core.Path.{_≡_, refl}
 use mathlib.Core.Bool.{Bool}
-use mathlib.Core.List.{List, map}
+use mathlib.Core.List.{List, [], _∷_, _++_, map}
+use mathlib.Core.Option.{none}
 use Rattle.refusal.specs.Number.{numberOf}
 use Rattle.refusal.specs.declared.Refusal.{Refusal}
 use Rattle.rules.specs.Lists.{keep, mem}
 use Rattle.rules.specs.Number.{Number}
 use Rattle.rules.specs.Order.{Step, define, delete, answer, tick}
 use Rattle.rules.specs.World.{World, Tally}
-use Rattle.rules.specs.Refusals.{lawOrder, tests, listTests}
+use Rattle.rules.specs.Refusals.{lawOrder, first, tests, listTests}
+use Rattle.rules.proofs.Tests.{split, clash}
 
 abbrev numbersOf : List (Refusal × Bool) → List ℕ
 numbersOf l = map (λ (t : Refusal × Bool). numberOf (t .0)) l
@@ -28,3 +30,8 @@ tests-rise w t tick = refl
 pub list-tests-rise : (w : World) (asker g : Number) (radios : List ℕ) (room : ℕ)
     → numbersOf (listTests w asker g radios room) ≡ inLawOrder (numbersOf (listTests w asker g radios room))
 list-tests-rise w asker g radios room = refl
+
+-- tests and further tests: where none of the first holds, the others tell
+pub first-none : (a b : List (Refusal × Bool)) → first a ≡ none → first (a ++ b) ≡ first b
+first-none [] b e = refl
+first-none (t ∷ a) b e = split (t .1) (λ q. clash (cc)) (λ q. rw q (first-none a b (cc)))

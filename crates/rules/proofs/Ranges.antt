@@ -16,7 +16,7 @@ use Rattle.rules.specs.Parameters.{Parameters, over, replaced, tooLarge,
 use Rattle.rules.specs.Mark.{Mark, waiting, T1, begun, ticked}
 use Rattle.rules.specs.Placing.{Placing, Lawful}
 use Rattle.rules.specs.Written.{goodOwners, maxOwners, goodMark}
-use Rattle.rules.proofs.Tests.{split, clash, and-in, or-in, or-l, or-r, not-in}
+use Rattle.rules.proofs.Tests.{split, clash, and-in, or-second, or-in, or-l, or-r, not-in}
 use Rattle.rules.proofs.Keys.{key-narrow}
 use Rattle.rules.proofs.Consecutive.{consecutive-mem}
 use Rattle.rules.proofs.ListLaws.{eqb-same, mem-once, once-once, once-same, all-mem, length-once, any-no}
@@ -50,16 +50,12 @@ module _ (home : ℕ) where
       ∙ key-narrow (identified home i) (identity-narrow i w (any-no badIdentity i l b .0) (any-no (λ (i : Identity). eqb (i .form) 0) i l f .0)))
       (λ q. keys-narrow l w (any-no badIdentity i l b .1) (any-no (λ (i : Identity). eqb (i .form) 0) i l f .1) x (cc))
 
-  last-in : (a b c : Bool) → b ≡ true → (a || (b || c)) ≡ true
-  last-in true b c e = refl
-  last-in false b c e = cc
-
   -- no key of a range is above its last
   range-narrow : (l : List ℕ) → ((x : ℕ) → mem x l ≡ true → wideKey x ≡ false) → (x : ℕ) → mem x (range l) ≡ true → wideKey x ≡ false
   range-narrow [] h x e = clash (sym e)
   range-narrow (first ∷ []) h x e = clash (sym e)
   range-narrow (first ∷ last ∷ more) h x e =
-      let low = leb-false keyLimit last (h last (last-in (eqb last first) (eqb last last) (mem last more) (eqb-same last))) in
+      let low = leb-false keyLimit last (h last (or-second (eqb last first) (mem last (last ∷ more)) (cc (eqb-same last)))) in
       let within = consecutive-mem first (span first last) x e in
       lt-leb keyLimit x (omega arith)
 

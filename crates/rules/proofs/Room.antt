@@ -1,6 +1,6 @@
 -- A define that names more pairs than there is room for meets 16: 64 groups with 64 radios, 4,096 pairs, have no room among 2,048.
 -- Under any lawful placing.
-use Prim.Native.Nat.{ℕ, zero, suc, _+_, _*_, _≤_, _<_}
+use Prim.Native.Nat.{ℕ, suc, _+_, _*_, _≤_, _<_}
 use mathlib.Core.Path.{_≡_, refl, sym, _∙_, ap}
 use mathlib.Core.Bool.{Bool, true, false, not, _||_}
 use mathlib.Core.List.{List, [], _∷_}
@@ -9,7 +9,6 @@ use lib.Dec.{ltb}
 use lib.ListN.{length, take, drop}
 use native.Mathlib.Omega.{arith}
 use borrow.Author.Tests.{lt-ltb}
-use Rattle.refusal.specs.declared.Refusal.{Refusal}
 use Rattle.refusal.specs.declared.Refusal.the-variants.{Full}
 use Rattle.rules.specs.Lists.{any, keep, present}
 use Rattle.rules.specs.Entries.{find}
@@ -19,7 +18,8 @@ use Rattle.rules.specs.Refusals.{maxGroups, maxPairs, first, tests}
 use Rattle.rules.specs.Ledger.{Pair, samePair, Ledger, view}
 use Rattle.rules.specs.Placing.{Placing, Lawful}
 use Rattle.rules.specs.Steps.{product, tally, apply, refused}
-use Rattle.rules.proofs.Tests.{split, clash}
+use Rattle.rules.proofs.Tests.{split, clash, or-second}
+use Rattle.rules.proofs.LawOrder.{first-none}
 use Rattle.rules.proofs.ListLaws.{Apart}
 use Rattle.rules.proofs.Pairs.{pair-sound, length-product, product-length, product-apart}
 use Rattle.rules.proofs.Effects.{Standing}
@@ -57,12 +57,6 @@ module _ {K X : Type 0} (same : K → K → Bool) (sound : (a b : K) → same a 
 
 -- ---- the room for pairs ----
 
--- where none of the first n tests holds, the others tell
-first-after : (n : ℕ) (l : List (Refusal × Bool)) → first (take n l) ≡ none → first l ≡ first (drop n l)
-first-after zero l e = refl
-first-after (suc n) [] e = refl
-first-after (suc n) (t ∷ l) e = split (t .1) (λ q. clash (cc)) (λ q. rw q (first-after n l (cc)))
-
 module _ (p : Placing) (laws : Lawful p) (l : Ledger) (s : Standing p l) (o : Define) (room : ℕ) where
   abbrev after : Ledger
   after = apply p l (effect (view l) (define o room))
@@ -86,12 +80,9 @@ module _ (p : Placing) (laws : Lawful p) (l : Ledger) (s : Standing p l) (o : De
       → maxPairs < length (defineGroups o) * length (defineRadios o) → refused p l (define o room) ≡ some Full
   meets-16 e many =
       let more : maxPairs < length (after .pairs) = let named = named-stand in omega arith in
-      let full = or-right (ltb maxGroups (length (after .groups))) (ltb maxPairs (length (after .pairs))) (lt-ltb maxPairs (length (after .pairs)) more) in
-      first-after 5 (tests (view l) (tally p l (effect (view l) (define o room))) (define o room)) e ∙ rw full
-    where
-      or-right : (a b : Bool) → b ≡ true → (a || b) ≡ true
-      or-right true b q = refl
-      or-right false b q = q
+      let full = or-second (ltb maxGroups (length (after .groups))) (ltb maxPairs (length (after .pairs))) (lt-ltb maxPairs (length (after .pairs)) more) in
+      let all = tests (view l) (tally p l (effect (view l) (define o room))) (define o room) in
+      first-none (take 5 all) (drop 5 all) e ∙ rw full
 
   -- 64 groups and 64 radios, as many as refusal 20 lets pass
   pub sixty-four-by-sixty-four : first (take 5 (tests (view l) (tally p l (effect (view l) (define o room))) (define o room))) ≡ none

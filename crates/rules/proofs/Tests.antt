@@ -44,6 +44,10 @@ pub and-r : (a b : Bool) → (a && b) ≡ true → b ≡ true
 and-r true b e = e
 and-r false b e = clash (sym e)
 
+pub or-second : (a b : Bool) → b ≡ true → (a || b) ≡ true
+or-second true b e = refl
+or-second false b e = e
+
 pub or-in : (a b : Bool) → a ≡ false → b ≡ false → (a || b) ≡ false
 or-in a b p q = cc
 
