@@ -1,0 +1,2 @@
+-- What the page promises.
+pub mod Page
