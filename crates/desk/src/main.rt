@@ -1,5 +1,6 @@
 // The desk of a yard: one ledger order a line on standard input, one reply a line.
 mod input;
+mod lines;
 mod memory;
 mod orders;
 

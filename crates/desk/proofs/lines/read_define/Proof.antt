@@ -1,10 +1,10 @@
--- `desk::orders::read_define` is safe: the bytes that were packed lie within their room.
+-- `desk::lines::read_define` is safe: the bytes that were packed lie within their room.
 use mathlib.Core.Path.{sym}
 use native.Mathlib.Omega.{arith}
 use lib.Seq.{length-take-le}
 use borrow.Author.Needs.{needs}
-use Rattle.desk.proofs.orders.read_define.Statement.{statement}
-use Rattle.desk.proofs.orders.read_define.Tie as tie
+use Rattle.desk.proofs.lines.read_define.Statement.{statement}
+use Rattle.desk.proofs.lines.read_define.Tie as tie
 
 split-requires : tie.Need-split-requires
 split-requires c κs = search needs

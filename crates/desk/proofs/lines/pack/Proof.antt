@@ -1,10 +1,10 @@
--- `desk::orders::pack` is safe and ends: the bytes stay within their room.
+-- `desk::lines::pack` is safe and ends: the bytes stay within their room.
 use mathlib.Core.Path.{_≡_}
 use Prim.Native.Nat.{_-_, _≤_}
 use lib.ListN.{length}
 use borrow.Author.Needs.{needs}
-use Rattle.desk.proofs.orders.pack.Statement.{statement}
-use Rattle.desk.proofs.orders.pack.Tie as tie
+use Rattle.desk.proofs.lines.pack.Statement.{statement}
+use Rattle.desk.proofs.lines.pack.Tie as tie
 
 abbrev Inv-loop : tie.InvT-loop
 Inv-loop text bytes₀ count i₀ bytes i = (length bytes ≡ length bytes₀) × (i ≤ count) × (count ≤ length bytes₀)
