@@ -20,12 +20,12 @@ use Rattle.order.specs.Walks as walks
 use Rattle.order.proofs.Walks.{map-take, map-drop}
 use Rattle.order.proofs.Moves.{moved-set}
 use Rattle.store.specs.Lists.{Plain}
-use Rattle.store.specs.Places.{placeOf}
+use Rattle.store.specs.Places.{placeOf, indexOf, behindOf}
 use Rattle.store.proofs.Rows.{plain-rows}
 use Rattle.store.specs.declared.Place.{Place}
-use Rattle.defining.specs.Putting.{indexOf, behindOf, stepAfter, Opens, Puts, Takes}
+use Rattle.defining.specs.Putting.{stepAfter, Opens, Puts, Takes}
 use Rattle.defining.specs.declared.Step.{Step}
-use Rattle.defining.proofs.Parting.{Parted, parted}
+use Rattle.store.proofs.Parting.{Parted, parted}
 
 -- a row put at the place that was found
 pub row-put : (place found : Place) → found ≡ place → (left by from : ℕ) → from ≡ behindOf found → (rowAt : Place → List ℕ) (row : List ℕ) → row ≡ rowAt found

@@ -1,5 +1,4 @@
 -- Laws of a define.
-pub mod Parting
 pub mod Downward
 pub mod Counting
 pub mod Making

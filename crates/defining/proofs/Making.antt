@@ -27,7 +27,7 @@ use Rattle.store.proofs.Groups.{name-few}
 use Rattle.order.specs.Row.{heldOf, lettersOf, words}
 use Rattle.defining.specs.Row.{madeRow}
 use Rattle.defining.specs.Groups.{rowFor, Fine, FineGroups, FineOrder}
-use Rattle.defining.proofs.Parting.{Parted}
+use Rattle.store.proofs.Parting.{Parted}
 
 held-over : (new old : Option ℕ) → cond (eqb (heldOf new) 0) (heldOf old) (heldOf new) ≡ heldOf (over new old)
 held-over none old = refl

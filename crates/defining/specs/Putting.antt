@@ -9,19 +9,10 @@ use Rattle.rules.specs.Refusals.{maxPairs}
 use Rattle.rules.specs.ByNumber.{lower}
 use Rattle.order.specs.Walks.{moved}
 use Rattle.store.specs.Lists.{Plain}
+use Rattle.store.specs.Places.{indexOf, behindOf}
 use Rattle.store.specs.Storage.{Rows}
 use Rattle.store.specs.declared.Place.{Place}
-use Rattle.store.specs.declared.Place.the-variants.{At, Free}
 use Rattle.defining.specs.declared.Step.{Step}
-
-abbrev pub indexOf : Place → ℕ
-indexOf (At i) = i
-indexOf (Free i) = i
-
--- where the rows behind it begin
-abbrev pub behindOf : Place → ℕ
-behindOf (At i) = i + 1
-behindOf (Free i) = i
 
 -- the row at `at` is done; those before the place stand as they were
 abbrev pub stepAfter : Place → ℕ → Step

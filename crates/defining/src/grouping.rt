@@ -22,10 +22,10 @@ ghost use Rattle.rows.specs.Layout.{groupWords};
 ghost use Rattle.order.specs.Keys.{groupKeys};
 ghost use Rattle.rules.specs.Lists.{rises};
 ghost use Rattle.order.specs.Walks.{moved, onto};
-ghost use Rattle.store.specs.Places.{placeOf};
+ghost use Rattle.store.specs.Places.{placeOf, behindOf};
 ghost use Rattle.store.specs.Storage.{groupOf, groupRow, groupsOf};
 ghost use Rattle.defining.specs.Groups.{madeGroups, rowFor, FineGroups, FineOrder};
-ghost use Rattle.defining.specs.Putting.{behindOf, Opens, Puts, Takes};
+ghost use Rattle.defining.specs.Putting.{Opens, Puts, Takes};
 ghost use Rattle.defining.specs.Row.{keepsWord, madeWord, madeRow};
 
 fn keeps_word(keeps: bool, order: [u64; GROUP_WORDS], j: usize) -> bool

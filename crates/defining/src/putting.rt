@@ -4,7 +4,8 @@ use store::Place;
 ghost use Prim.Native.Nat.{_≤_};
 ghost use mathlib.Core.Path.{_≡_};
 ghost use Rattle.rules.specs.Refusals.{maxPairs};
-ghost use Rattle.defining.specs.Putting.{indexOf, behindOf, stepAfter};
+ghost use Rattle.store.specs.Places.{indexOf, behindOf};
+ghost use Rattle.defining.specs.Putting.{stepAfter};
 
 // The place itself, whether it is taken or free.
 pub fn index(place: Place) -> usize

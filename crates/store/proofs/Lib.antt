@@ -3,6 +3,8 @@ pub mod Rows
 pub mod Storage
 pub mod HalvingLaws
 pub mod PlaceLaws
+pub mod Parting
+pub mod OneRow
 pub mod LookedUp
 pub mod Stretches
 pub mod Tests

@@ -1,5 +1,5 @@
 -- The place of a key among entries, and what is looked up there.
-use Prim.Native.Nat.{ℕ}
+use Prim.Native.Nat.{ℕ, _+_}
 use mathlib.Core.Bool.{Bool, true, false, cond}
 use mathlib.Core.List.{List}
 use mathlib.Core.Option.{Option, none, some}
@@ -31,6 +31,15 @@ module _ {K X : Type 0} (below same : K → K → Bool) where
 abbrev pub standsAt : Place → Bool
 standsAt (At i) = true
 standsAt (Free i) = false
+
+abbrev pub indexOf : Place → ℕ
+indexOf (At i) = i
+indexOf (Free i) = i
+
+-- where what is behind it begins
+abbrev pub behindOf : Place → ℕ
+behindOf (At i) = i + 1
+behindOf (Free i) = i
 
 -- ---- a group's stretch ----
 

@@ -5,7 +5,8 @@ use lib.ListN.{getD}
 use borrow.Author.Tests.{eq-eqb, ne-eqb}
 use Rattle.rules.specs.Mark.{fresh, confirmed}
 use Rattle.store.specs.Storage.{pairOf, pairRow}
-use Rattle.answering.proofs.OneRow.{row-replaced, row-taken}
+use Rattle.store.proofs.OneRow.{row-replaced}
+use Rattle.answering.proofs.OneRow.{row-taken}
 use borrow.Author.Needs.{needs}
 use Rattle.answering.proofs.settle.Statement.{statement}
 use Rattle.answering.proofs.settle.Tie as tie

@@ -14,11 +14,10 @@ use Rattle.rules.proofs.Tests.{split}
 use Rattle.rules.proofs.Rises.{Over, Climbs}
 use Rattle.rules.proofs.ByKey.{Linear, apart, apart-back, key-climbs}
 use Rattle.rules.proofs.PutsByKey.{Above, Under}
-use Rattle.store.specs.Places.{placeOf, standsAt}
+use Rattle.store.specs.Places.{placeOf, standsAt, indexOf, behindOf}
 use Rattle.store.specs.declared.Place.{Place}
 use Rattle.store.specs.declared.Place.the-variants.{At, Free}
 use Rattle.store.proofs.PlaceLaws.{rank, place-rank, looked-found}
-use Rattle.defining.specs.Putting.{indexOf, behindOf}
 
 -- where the entries behind the key begin
 abbrev behind : Bool → ℕ → ℕ
