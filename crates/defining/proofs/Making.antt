@@ -16,7 +16,7 @@ use Rattle.rules.specs.Ledger.{Group}
 use Rattle.rules.specs.Steps.{groupAfter}
 use Rattle.rules.specs.Written.{maxOwners}
 use Rattle.rules.proofs.ByNumber.{numbers-linear}
-use Rattle.rows.specs.Layout.{groupWords, maxLetters}
+use Rattle.rows.specs.Layout.{groupWords, maxLetters, ownerCount}
 use Rattle.store.specs.Lists.{Plain}
 use Rattle.store.specs.Storage.{Rows, groupOf, groupRow, groupsOf, counted}
 use Rattle.store.specs.declared.Place.{Place}
@@ -59,10 +59,10 @@ module _ (g : ℕ) (x : Group) (f : Fine x) where
   name-long : length (nameWords x) ≡ 17
   name-long = length-counted 16 (lettersOf (x .parameters .name)) (name-few (x .parameters .name) (f .0))
 
-  owners-long : length (ownerWords x) ≡ 12
-  owners-long = length-counted 11 (x .owners) (f .1)
+  owners-long : length (ownerWords x) ≡ maxOwners + 1
+  owners-long = length-counted maxOwners (x .owners) (f .1)
 
-  row-long : length (groupRow (g, x)) ≡ 36
+  row-long : length (groupRow (g, x)) ≡ groupWords
   unfolding groupRow
   row-long = omega (arith, length-append (nameWords x) (ownerWords x), name-long, owners-long)
 
@@ -70,11 +70,11 @@ module _ (g : ℕ) (x : Group) (f : Fine x) where
   unfolding groupRow
   name-words = words-slice (groupRow (g, x)) 17 7 (omega (arith, row-long)) ∙ take-at (nameWords x) (ownerWords x) 17 name-long
 
-  owner-words : words (λ j. getD (groupRow (g, x)) j 0) 12 24 ≡ ownerWords x
+  owner-words : words (λ j. getD (groupRow (g, x)) j 0) (maxOwners + 1) ownerCount ≡ ownerWords x
   unfolding groupRow
   owner-words =
-      words-slice (groupRow (g, x)) 12 24 (omega (arith, row-long))
-      ∙ ap (take 12) (drop-at (nameWords x) (ownerWords x) 17 name-long)
+      words-slice (groupRow (g, x)) (maxOwners + 1) ownerCount (omega (arith, row-long))
+      ∙ ap (take (maxOwners + 1)) (drop-at (nameWords x) (ownerWords x) 17 name-long)
       ∙ ap (λ (n : ℕ). take n (ownerWords x)) (sym owners-long) ∙ take-length (ownerWords x)
 
 -- a row of zeros is that of a bare group
@@ -95,7 +95,7 @@ module _ (g n : ℕ) (keeps : Bool) (new old : Group) (fn : Fine new) (fo : Fine
   name-part true e = name-words n old fo ∙ ap (counted 16) (sym (letters-over (new .parameters .name) (old .parameters .name) (fn .0) true e))
   name-part false e = name-words 0 new fn ∙ ap (counted 16) (sym (letters-over (new .parameters .name) (old .parameters .name) (fn .0) false e))
 
-  owner-part : (k : Bool) → words (λ j. cond k (oldWord j) (newWord j)) 12 24 ≡ counted maxOwners (cond k (old .owners) (new .owners))
+  owner-part : (k : Bool) → words (λ j. cond k (oldWord j) (newWord j)) (maxOwners + 1) ownerCount ≡ counted maxOwners (cond k (old .owners) (new .owners))
   owner-part true = owner-words n old fo
   owner-part false = owner-words 0 new fn
 

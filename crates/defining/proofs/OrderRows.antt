@@ -9,7 +9,9 @@ use native.Mathlib.Omega.{arith}
 use lib.ListN.{length, getD, take, drop, replicate, length-take}
 use Rattle.rules.specs.Parameters.{badName}
 use Rattle.rules.specs.Ledger.{Group}
+use Rattle.rules.specs.Written.{maxOwners}
 use Rattle.rules.specs.Recorded.{optional, letterCount, letters, valueAt, optionalName, parametersIn}
+use Rattle.rows.specs.Layout.{firstOwner}
 use Rattle.store.specs.Storage.{groupOf, groupRow}
 use Rattle.order.specs.Row.{lettersOf, words, valueWord, orderRowOf}
 use Rattle.defining.specs.Groups.{FineOrder}
@@ -49,16 +51,16 @@ few-letters places = go (optional places letterCount)
     go true = omega (arith, length-take (valueAt places 96) (take 16 (drop letters places)), length-take 16 (drop letters places))
     go false = omega arith
 
-order-row : (places os : List ℕ) → length os ≤ 11 → orderRowOf places os ≡ groupRow (0, record { owners = os; parameters = parametersIn places })
+order-row : (places os : List ℕ) → length os ≤ maxOwners → orderRowOf places os ≡ groupRow (0, record { owners = os; parameters = parametersIn places })
 unfolding orderRowOf groupRow parametersIn
 order-row places os h =
     let l = lettersOf (optionalName places) in
     λ i.
     0 ∷ valueWord places 1 ∷ valueWord places 2 ∷ valueWord places 3 ∷ valueWord places 4 ∷ valueWord places 5 ∷ valueWord places 6
-    ∷ ((length l ∷ list-words l 16 8 (few-letters places) i) ++ (length os ∷ list-words os 11 25 h i))
+    ∷ ((length l ∷ list-words l 16 8 (few-letters places) i) ++ (length os ∷ list-words os maxOwners firstOwner h i))
 
 -- a record with a good name is read back from its row
-module _ (places os : List ℕ) (few : length os ≤ 11) (good : badName (optionalName places) ≡ false) where
+module _ (places os : List ℕ) (few : length os ≤ maxOwners) (good : badName (optionalName places) ≡ false) where
   pub order-group : groupOf (orderRowOf places os) ≡ (0, record { owners = os; parameters = parametersIn places })
   unfolding parametersIn
   order-group = ap groupOf (order-row places os few) ∙ group-back 0 os (parametersIn places) good few

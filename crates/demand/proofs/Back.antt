@@ -42,11 +42,11 @@ module _ (e : ℕ × Group) (good : goodGroup placing e ≡ true) where
   name-fine : badName (p .name) ≡ false
   name-fine = in-range p (not-true (badParameters p) (and-r (goodOwners placing os) (not (badParameters p)) own)) .name
 
-  owners-few : length os ≤ 11
+  owners-few : length os ≤ maxOwners
   owners-few =
       let rest = rises ltb os && all (λ a. not (wideKey a)) os in
       let k = and-r (ltb 0 (length os)) (leb (length os) maxOwners && rest) (and-l (goodOwners placing os) (not (badParameters p)) own) in
-      leb-true (length os) 11 (and-l (leb (length os) maxOwners) rest k)
+      leb-true (length os) maxOwners (and-l (leb (length os) maxOwners) rest k)
 
   good-back : groupOf (groupRow e) ≡ e
   good-back = group-back (e .0) os p name-fine owners-few
@@ -58,13 +58,14 @@ module _ (e : ℕ × Group) (good : goodGroup placing e ≡ true) where
       let l = lettersOf (p .name) in
       let few = name-few (p .name) name-fine in
       let z16 : List ℕ = replicate (16 - length l) 0 in
-      let z11 : List ℕ = replicate (11 - length os) 0 in
+      let spare : List ℕ = replicate (maxOwners - length os) 0 in
       let n : length (l ++ z16) ≡ 16 = rw (length-append l z16, length-replicate {A = ℕ} (16 - length l) 0) (omega (arith, few)) in
-      let named : take 16 ((l ++ z16) ++ counted 11 os) ≡ l ++ z16 = take-at (l ++ z16) (counted 11 os) 16 n in
-      let count : getD ((l ++ z16) ++ counted 11 os) 16 0 ≡ length os = getD-at (l ++ z16) (length os) (os ++ z11) 0 16 n in
-      let rest : drop 17 ((l ++ z16) ++ counted 11 os) ≡ os ++ z11 = ap (λ (k : ℕ). drop (k + 1) ((l ++ z16) ++ counted 11 os)) (sym n)
-      ∙ drop-append-add (l ++ z16) (counted 11 os) 1 in
-      rw (named, count, rest, le-leb (length l) 16 few, le-leb (length os) 11 owners-few) (and-in (ends l (16 - length l)) (ends os (11 - length os)))
+      let named : take 16 ((l ++ z16) ++ counted maxOwners os) ≡ l ++ z16 = take-at (l ++ z16) (counted maxOwners os) 16 n in
+      let count : getD ((l ++ z16) ++ counted maxOwners os) 16 0 ≡ length os = getD-at (l ++ z16) (length os) (os ++ spare) 0 16 n in
+      let rest : drop 17 ((l ++ z16) ++ counted maxOwners os) ≡ os ++ spare = ap (λ (k : ℕ). drop (k + 1) ((l ++ z16) ++ counted maxOwners os)) (sym n)
+      ∙ drop-append-add (l ++ z16) (counted maxOwners os) 1 in
+      rw (named, count, rest, le-leb (length l) 16 few, le-leb (length os) maxOwners owners-few)
+      (and-in (ends l (16 - length l)) (ends os (maxOwners - length os)))
     where
       zeros : (k : ℕ) → blank (replicate k 0) ≡ true
       zeros zero = refl

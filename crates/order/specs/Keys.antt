@@ -1,4 +1,4 @@
--- The keys of an order's lists, as they are handed on: how many, and they, in 64 places (eleven for owners); the words past them are 0.
+-- The keys of an order's lists, as they are handed on: how many, and they, in 64 places (owners in as many as a group may have); the words past them are 0.
 use Prim.Native.Nat.{ℕ}
 use mathlib.Core.Bool.{cond}
 use mathlib.Core.List.{List, []}

@@ -89,7 +89,7 @@ fn bad_parameters(row: &[u64; GROUP_WORDS]) -> bool
                         | ((4 < row[LIFETIME_WORD]) | ((8 < row[TEMPORARY_WORD]) | false))))))
 }
 
-// Whether a group has 1 to 11 owners in range, rising.
+// Whether a group has owners, within their room, in range and rising.
 fn good_owners(row: &[u64; GROUP_WORDS]) -> bool
     requires { ⌜ getD (now row) ownerCount 0 ≤ maxOwners ⌝ }
     ensures { λ r. ⌜ r ≡ goodOwners placing (groupOf (now (row .entry)) .1 .owners) ⌝ }

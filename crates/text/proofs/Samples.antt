@@ -1,8 +1,10 @@
 -- Replies as the documents print them.
 use mathlib.Core.Path.{_≡_, refl}
 use mathlib.Core.List.{[], _∷_}
+use Prim.Native.Nat.{_-_}
 use lib.ListN.{replicate}
 use Rattle.refusal.specs.declared.Refusal.the-variants.{NoGroup, NoRoom}
+use Rattle.rules.specs.Written.{maxOwners}
 use Rattle.replies.specs.declared.Reply.the-variants.{Done, Refused}
 use Rattle.replies.specs.declared.Sent.the-variants.{Orders}
 use Rattle.replies.specs.declared.Members.the-variants.{Radios}
@@ -31,7 +33,7 @@ pub yard : Shown
 yard = record {
   reply = Done;
   count = 3;
-  owners = (1, 4) ∷ (2, 5) ∷ (3, 6) ∷ replicate 8 nobody;
+  owners = (1, 4) ∷ (2, 5) ∷ (3, 6) ∷ replicate (maxOwners - 3) nobody;
   reference = 8;
   acknowledged = 1;
   broadcast = 2;

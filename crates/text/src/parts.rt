@@ -11,8 +11,9 @@ use replies::Shown;
 use rows::MAX_LETTERS;
 use rows::MAX_OWNERS;
 ghost use mathlib.Core.Path.{_≡_};
-ghost use Prim.Native.Nat.{_+_, _≤_};
+ghost use Prim.Native.Nat.{_+_, _*_, _≤_};
 ghost use lib.ListN.{length, take};
+ghost use Rattle.rules.specs.Written.{maxOwners};
 ghost use Rattle.text.specs.Text.{heldLetter, earlyText, lateText, ownersText, nameText, frontText, backText};
 ghost use Rattle.text.specs.Put.{Put, longest};
 
@@ -48,10 +49,10 @@ fn late(class: u64, lifetime: u64, temporary: u64) -> [u8; 31]
     text
 }
 
-// The first `count` owners, parted by commas.
+// The first `count` owners, parted by commas: with its comma an owner takes 14 bytes.
 fn put_owners(owners: [Itsi; MAX_OWNERS], count: usize, out: &mut [u8], at: usize) -> usize
-    requires { ⌜ (count ≤ 11) × (at + 153 ≤ length (now out)) ⌝ }
-    ensures { λ r. ⌜ (r ≤ at + 153) × Put (ownersText (take count owners)) (now (out .entry)) (now (out .exit)) at r ⌝ }
+    requires { ⌜ (count ≤ maxOwners) × (at + 14 * maxOwners ≤ length (now out)) ⌝ }
+    ensures { λ r. ⌜ (r ≤ at + 14 * maxOwners) × Put (ownersText (take count owners)) (now (out .entry)) (now (out .exit)) at r ⌝ }
 {
     if count == 0 {
         return at;
@@ -84,10 +85,10 @@ fn put_name(name: [u64; MAX_LETTERS], count: usize, out: &mut [u8], at: usize) -
     next
 }
 
-// The owners, and the parameters up to the name.
+// The owners, and the parameters up to the name: 34 bytes, and what the owners take.
 pub fn put_front(shown: Shown, out: &mut [u8]) -> usize
     requires { ⌜ longest ≤ length (now out) ⌝ }
-    ensures { λ r. ⌜ (r ≤ 187) × Put (frontText shown) (now (out .entry)) (now (out .exit)) 0 r ⌝ }
+    ensures { λ r. ⌜ (r ≤ 34 + 14 * maxOwners) × Put (frontText shown) (now (out .entry)) (now (out .exit)) 0 r ⌝ }
 {
     let owners = shown.owners;
     let at = put_text(b"A owners=", out, 0);

@@ -2,6 +2,7 @@
 use mathlib.Core.Path.{_≡_}
 use native.Mathlib.Omega.{arith}
 use lib.ListN.{length, length-take}
+use Rattle.rules.specs.Written.{maxOwners}
 use Rattle.order.specs.Keys.{ownersHeld}
 use Rattle.order.proofs.KeyLaws.{cut-fits, cut-length, cut-sorted}
 use borrow.Author.Needs.{needs}
@@ -12,7 +13,7 @@ use Rattle.order.proofs.keys.owners_rising.Tie as tie
 counted : (c : tie.After-lesser) → c .lesser .result ≡ length (ownersHeld (c .before .before .args .owners))
 counted c =
     let o = c .before .before .args .owners in
-    let n : length (o .key) ≡ 11 = search needs in
+    let n : length (o .key) ≡ maxOwners = search needs in
     omega (arith, c .lesser .ensures, length-take (o .count) (o .key))
 
 lesser-requires : tie.Need-lesser-requires
@@ -30,13 +31,13 @@ slice-aggregate-put-rising-2 c = search needs
 put-rising-requires : tie.Need-put-rising-requires
 put-rising-requires c κs =
     let o = c .before .before .before .before .args .owners in
-    let n : length (o .key) ≡ 11 = search needs in
+    let n : length (o .key) ≡ maxOwners = search needs in
     omega (arith, length-take (c .before .before .lesser .result) (o .key))
 
 returns : tie.Need-returns
 returns c =
     let o = c .before .before .before .before .before .before .args .owners in
-    let w = cut-sorted (o .key) (o .count) _ (counted (c .before .before .before .before)) 11 _ (c .before .put-rising .ensures) in
+    let w = cut-sorted (o .key) (o .count) _ (counted (c .before .before .before .before)) maxOwners _ (c .before .put-rising .ensures) in
     λ i. record { count = w .0 i; key = w .1 i }
 
 pub owners-rising-spec : {M : Type 1} → statement M

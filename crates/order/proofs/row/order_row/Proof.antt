@@ -4,6 +4,7 @@ use Prim.Native.Nat.{ℕ}
 use lib.ListN.{length, take}
 use lib.Seq.{length-take-le}
 use native.Mathlib.Omega.{arith}
+use Rattle.rules.specs.Written.{maxOwners}
 use Rattle.order.specs.Row.{orderRowOf}
 use Rattle.order.proofs.Walks.{take-min}
 use borrow.Author.Needs.{needs}
@@ -15,13 +16,13 @@ lesser-requires c κs = search needs
 
 array-share-prefix-key : tie.Need-array-share-prefix-key
 array-share-prefix-key c =
-    let n : length (c .before .before .args .owners .key) ≡ 11 = search needs in
+    let n : length (c .before .before .args .owners .key) ≡ maxOwners = search needs in
     omega (arith, c .lesser .ensures)
 
 slice-aggregate-row-of : tie.Need-slice-aggregate-row-of
 slice-aggregate-row-of c =
     let key = c .before .before .before .args .owners .key in
-    let n : length key ≡ 11 = search needs in
+    let n : length key ≡ maxOwners = search needs in
     sym (length-take-le (c .before .lesser .result) key (omega (arith, c .before .lesser .ensures)))
 
 row-of-requires : tie.Need-row-of-requires
@@ -31,8 +32,8 @@ returns : tie.Need-returns
 returns c =
     let a = c .before .before .before .before .args in
     let key = a .owners .key in
-    let n : length key ≡ 11 = search needs in
-    let held = ap (λ (k : ℕ). take k key) (c .before .before .lesser .ensures) ∙ take-min (a .owners .count) 11 key n in
+    let n : length key ≡ maxOwners = search needs in
+    let held = ap (λ (k : ℕ). take k key) (c .before .before .lesser .ensures) ∙ take-min (a .owners .count) maxOwners key n in
     c .row-of .ensures ∙ ap (orderRowOf (a .place)) held
 
 pub order-row-spec : {M : Type 1} → statement M

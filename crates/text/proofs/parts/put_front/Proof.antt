@@ -4,6 +4,7 @@ use mathlib.Core.List.{List, map}
 use Prim.Native.Nat.{ℕ}
 use native.Mathlib.Omega.{arith}
 use lib.ListN.{length, length-map}
+use Rattle.rules.specs.Written.{maxOwners}
 use Rattle.text.specs.Text.{ownersText}
 use Rattle.text.proofs.Puts.{put-as, put-then}
 use Rattle.text.proofs.Texts.{take-fit}
@@ -16,7 +17,7 @@ length-mapped : (X Y : Type 0) (f : X → Y) (l : List X) (n : ℕ) → length (
 length-mapped X Y f l n e = sym (length-map l f) ∙ e
 
 -- the owners' places
-full : (c : tie.Start) → length (c .args .shown .owners) ≡ 11
+full : (c : tie.Start) → length (c .args .shown .owners) ≡ maxOwners
 full c = search (needs, length-mapped)
 
 slice-aggregate-put-text : tie.Need-slice-aggregate-put-text
@@ -52,7 +53,7 @@ returns c =
     let label = least .before .before .before in
     let start = label .before .before .before .before .before in
     let shown = start .args .shown in
-    let all = take-fit (shown .owners) (shown .count) 11 (full start) (least .least .ensures) in
+    let all = take-fit (shown .owners) (shown .count) maxOwners (full start) (least .least .ensures) in
     let first = put-then (label .put-text .ensures) (put-as (ap ownersText (sym all)) (owners .put-owners .ensures .1)) in
     (omega arith, put-then first (rw (values .early .ensures) at (last .put-text2 .ensures)))
 

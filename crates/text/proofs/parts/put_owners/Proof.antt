@@ -3,6 +3,7 @@ use mathlib.Core.Path.{_≡_, refl, ap}
 use Prim.Native.Nat.{_-_, _≤_}
 use native.Mathlib.Omega.{arith}
 use lib.ListN.{length, take}
+use Rattle.rules.specs.Written.{maxOwners}
 use Rattle.replies.specs.Showing.{nobody}
 use Rattle.text.specs.Text.{nextOwner, ownersText}
 use Rattle.text.proofs.Puts.{put-as, put-then}
@@ -21,7 +22,7 @@ abbrev μ-loop : tie.MeasureT-loop
 -- the owners that are put are there
 there : (c : tie.Start Inv-loop μ-loop) → c .args .count ≤ length (c .args .t1)
 there c =
-    let full : length (c .args .t1) ≡ 11 = search needs in
+    let full : length (c .args .t1) ≡ maxOwners = search needs in
     omega arith
 
 returns : tie.Need-returns Inv-loop μ-loop
