@@ -2,6 +2,7 @@ pub mod Tests
 pub mod ListLaws
 pub mod EntryLaws
 pub mod Walks
+pub mod JoinLaws
 pub mod Pairs
 pub mod Puts
 pub mod Arrival

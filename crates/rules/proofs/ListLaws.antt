@@ -94,7 +94,7 @@ above-insert y x (z ∷ l) h a = split (ltb x z)
     (λ e. rw e (h, a))
     (λ e. rw e (a .0, above-insert y x l h (a .1)))
 
-rising-insert : (x : ℕ) (l : List ℕ) → mem x l ≡ false → Rising l → Rising (insert x l)
+pub rising-insert : (x : ℕ) (l : List ℕ) → mem x l ≡ false → Rising l → Rising (insert x l)
 rising-insert x [] n r = (tt, tt)
 rising-insert x (z ∷ l) n r = split (ltb x z)
     (λ e. let h = ltb-true x z e in rw e ((h, above-trans x z l h (r .0)), r))
@@ -105,7 +105,7 @@ rising-insert x (z ∷ l) n r = split (ltb x z)
     below : (x z : ℕ) → z ≤ x → (x ≡ z → ⊥) → z < x
     below x z h n = omega arith
 
-mem-insert : (n x : ℕ) (l : List ℕ) → mem n (insert x l) ≡ (eqb n x || mem n l)
+pub mem-insert : (n x : ℕ) (l : List ℕ) → mem n (insert x l) ≡ (eqb n x || mem n l)
 mem-insert n x [] = refl
 mem-insert n x (z ∷ l) = split (ltb x z)
     (λ e. cc)
