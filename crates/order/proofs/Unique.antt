@@ -1,6 +1,10 @@
--- Any two results that a function's contract allows are equal. `Post` is a contract's claim as the checker reads it.
+-- Any two results that a function's contract allows are equal, and what `enter` leaves is one. `Post` is a contract's claim as the checker reads it.
 -- Assumes nothing.
-use mathlib.Core.Path.{sym, _∙_}
+use mathlib.Core.Path.{_≡_, sym, _∙_}
+use contract.Lifetimes.{Lfts}
+use borrow.Fn.Kinds.{Dens, resT, endedOf}
+use denote.Triple.Clauses.{AtExit}
+use denote.Ref.{now}
 pub use Rattle.table.proofs.Unique.{Unique}
 use Rattle.order.proofs.lists.member.Kinds as member-kinds
 use Rattle.order.proofs.lists.member.Reads as member
@@ -56,6 +60,8 @@ use Rattle.order.proofs.record.lists_of.Kinds as lists-of-kinds
 use Rattle.order.proofs.record.lists_of.Reads as lists-of
 use Rattle.order.proofs.record.first_state.Kinds as first-state-kinds
 use Rattle.order.proofs.record.first_state.Reads as first-state
+use Rattle.order.proofs.rising.enter.Kinds as enter-kinds
+use Rattle.order.proofs.rising.enter.Reads as enter
 use Rattle.order.proofs.row.order_row.Kinds as order-row-kinds
 use Rattle.order.proofs.row.order_row.Reads as order-row
 
@@ -142,3 +148,7 @@ first-state-unique κs a r r′ s s′ p q = p ∙ sym q
 
 pub order-row-unique : Unique order-row-kinds.ps order-row-kinds.r order-row.Post
 order-row-unique κs a r r′ s s′ p q = p ∙ sym q
+
+module _ (κs : Lfts 1) (a : Dens κs enter-kinds.ps) (r r′ : resT enter-kinds.r κs .Denot) (s s′ : AtExit (endedOf 1 enter-kinds.ps enter-kinds.r) κs) where
+  pub enter-unique : enter.Post κs a r s → enter.Post κs a r′ s′ → (r ≡ r′) × (now (s .0) ≡ now (s′ .0))
+  enter-unique p q = (p .counts ∙ sym (q .counts), p .keys ∙ sym (q .keys))

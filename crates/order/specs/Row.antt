@@ -1,4 +1,4 @@
--- The order's row, read off a DEFINE record: its parameters, and the owners that it gives.
+-- The order's row: the parameters of a DEFINE record, as a group's row has them; its key and its owners' words are 0.
 use Prim.Native.Nat.{ℕ, zero, suc, _-_}
 use mathlib.Core.Bool.{cond}
 use mathlib.Core.Option.{Option, none, some}
@@ -6,7 +6,7 @@ use mathlib.Core.List.{List, [], _∷_}
 use lib.Dec.{eqb, ltb}
 use lib.ListN.{length, getD}
 use Rattle.rows.specs.Layout.{groupWords, keyWord, referenceWord, callWord, broadcastWord, classWord, lifetimeWord}
-use Rattle.rows.specs.Layout.{nameLength, firstLetter, ownerCount, firstOwner}
+use Rattle.rows.specs.Layout.{nameLength, firstLetter, ownerCount}
 use Rattle.rules.specs.Recorded.{optionalNumber, optionalChoice, optionalName}
 use Rattle.rules.specs.Recorded.{setReference, acknowledgedCall, broadcast, classOfUsage, attachmentLifetime, temporaryAssignment}
 
@@ -33,13 +33,12 @@ valueWord places j =
     (cond (eqb j lifetimeWord) (heldOf (optionalNumber places attachmentLifetime))
     (heldOf (optionalNumber places temporaryAssignment))))))
 
-abbrev pub orderWord : List ℕ → List ℕ → ℕ → ℕ
-orderWord places owners j =
+abbrev pub orderWord : List ℕ → ℕ → ℕ
+orderWord places j =
     cond (eqb j keyWord) 0
     (cond (ltb j nameLength) (valueWord places j)
     (cond (eqb j nameLength) (length (lettersOf (optionalName places)))
-    (cond (ltb j ownerCount) (getD (lettersOf (optionalName places)) (j - firstLetter) 0)
-    (cond (eqb j ownerCount) (length owners) (getD owners (j - firstOwner) 0)))))
+    (cond (ltb j ownerCount) (getD (lettersOf (optionalName places)) (j - firstLetter) 0) 0)))
 
-unfoldable pub orderRowOf : List ℕ → List ℕ → List ℕ
-orderRowOf places owners = words (orderWord places owners) groupWords 0
+unfoldable pub orderRowOf : List ℕ → List ℕ
+orderRowOf places = words (orderWord places) groupWords 0

@@ -3,7 +3,7 @@ pub mod keys;
 pub mod lists;
 pub mod ranges;
 pub mod record;
-mod rising;
+pub mod rising;
 pub mod row;
 mod spelling;
 mod values;

@@ -1,5 +1,4 @@
-// The order's row: the parameters of a DEFINE record and the owners that it gives, as a group's row has them.
-use crate::Owners;
+// The order's row: the parameters of a DEFINE record, as a group's row has them; its key and its owners' words are 0.
 use crate::values::one_down;
 use crate::values::optional;
 use crate::values::widened;
@@ -8,16 +7,13 @@ use rows::BROADCAST_WORD;
 use rows::CALL_WORD;
 use rows::CLASS_WORD;
 use rows::FIRST_LETTER;
-use rows::FIRST_OWNER;
 use rows::GROUP_WORDS;
 use rows::KEY_WORD;
 use rows::LIFETIME_WORD;
 use rows::MAX_LETTERS;
-use rows::MAX_OWNERS;
 use rows::NAME_LENGTH;
 use rows::OWNER_COUNT;
 use rows::REFERENCE_WORD;
-use rows::lesser;
 use table::place::define::*;
 use table::place::*;
 ghost use Prim.Native.Nat.{_+_, _-_, _≤_, _<_};
@@ -25,8 +21,7 @@ ghost use lib.ListN.{length, getD};
 ghost use mathlib.Core.Path.{_≡_};
 ghost use Rattle.layout.specs.Frame.{places};
 ghost use Rattle.rules.specs.Recorded.{optionalNumber, optionalChoice, optionalName};
-ghost use Rattle.rows.specs.Layout.{groupWords, maxLetters};
-ghost use Rattle.order.specs.Keys.{ownersHeld};
+ghost use Rattle.rows.specs.Layout.{maxLetters};
 ghost use Rattle.order.specs.Row.{valueWord, orderWord, orderRowOf, heldOf, lettersOf};
 
 // An optional number of a DEFINE record, one up, 0 where absent; its P-bit is at `k`.
@@ -97,20 +92,9 @@ fn value_word(place: [u32; PLACES], j: usize) -> u64
     word_at(place, TEMPORARY_GIVEN)
 }
 
-// An owner, 0 past the last.
-fn owner_at(owners: &[u64], k: usize) -> u64
-    ensures { λ r. ⌜ r ≡ getD (now (owners .entry)) k 0 ⌝ }
-{
-    if k < owners.len() {
-        return owners[k];
-    }
-    0
-}
-
 // A word of the order's row.
-fn order_word(place: [u32; PLACES], owners: &[u64], j: usize) -> u64
-    requires { ⌜ j < groupWords ⌝ }
-    ensures { λ r. ⌜ r ≡ orderWord place (now (owners .entry)) j ⌝ }
+fn order_word(place: [u32; PLACES], j: usize) -> u64
+    ensures { λ r. ⌜ r ≡ orderWord place j ⌝ }
 {
     if j == KEY_WORD {
         return 0;
@@ -124,30 +108,18 @@ fn order_word(place: [u32; PLACES], owners: &[u64], j: usize) -> u64
     if j < OWNER_COUNT {
         return letter_at(place, j - FIRST_LETTER);
     }
-    if j == OWNER_COUNT {
-        return owners.len() as u64;
-    }
-    owner_at(owners, j - FIRST_OWNER)
+    0
 }
 
-// The row of these owners.
-fn row_of(place: [u32; PLACES], owners: &[u64]) -> [u64; GROUP_WORDS]
-    ensures { λ r. ⌜ r ≡ orderRowOf place (now (owners .entry)) ⌝ }
+// The order's row.
+pub fn order_row(place: [u32; PLACES]) -> [u64; GROUP_WORDS]
+    ensures { λ r. ⌜ r ≡ orderRowOf place ⌝ }
 {
     let mut row = [0u64; GROUP_WORDS];
     let mut i: usize = 0;
     while i < GROUP_WORDS {
-        row[i] = order_word(place, owners, i);
+        row[i] = order_word(place, i);
         i += 1;
     }
     row
-}
-
-// The order's row.
-pub fn order_row(place: [u32; PLACES], owners: Owners) -> [u64; GROUP_WORDS]
-    ensures { λ r. ⌜ r ≡ orderRowOf place (ownersHeld owners) ⌝ }
-{
-    let key = owners.key;
-    let count = lesser(owners.count, MAX_OWNERS);
-    row_of(place, &key[..count])
 }

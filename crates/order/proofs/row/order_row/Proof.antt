@@ -1,47 +1,65 @@
--- `order::order_row` meets its contract.
-use mathlib.Core.Path.{_≡_, sym, ap, _∙_}
-use Prim.Native.Nat.{ℕ}
-use lib.ListN.{length, take}
-use lib.Seq.{length-take-le}
+-- `order::order_row` meets its contract: the words passed are made.
+use mathlib.Core.Path.{_≡_}
 use native.Mathlib.Omega.{arith}
-use Rattle.rules.specs.Written.{maxOwners}
-use Rattle.order.specs.Row.{orderRowOf}
-use Rattle.order.proofs.Walks.{take-min}
+use Prim.Native.Nat.{ℕ, _≤_, _<_, _-_}
+use lib.ListN.{length, getD, length-set}
+use Rattle.rows.specs.Layout.{groupWords}
+use Rattle.order.specs.Row.{orderWord, orderRowOf}
+use Rattle.order.proofs.Words.{words-all, words-more}
 use borrow.Author.Needs.{needs}
 use Rattle.order.proofs.row.order_row.Statement.{statement}
 use Rattle.order.proofs.row.order_row.Tie as tie
 
-lesser-requires : tie.Need-lesser-requires
-lesser-requires c κs = search needs
+abbrev Inv-loop : tie.InvT-loop
+Inv-loop place row₀ i₀ row i = (i ≤ groupWords) × (length row ≡ groupWords) × ((j : ℕ) → j < i → getD row j 0 ≡ orderWord place j)
 
-array-share-prefix-key : tie.Need-array-share-prefix-key
-array-share-prefix-key c =
-    let n : length (c .before .before .args .owners .key) ≡ maxOwners = search needs in
-    omega (arith, c .lesser .ensures)
+abbrev μ-loop : tie.MeasureT-loop
+μ-loop place row₀ i₀ row i = groupWords - i
 
-slice-aggregate-row-of : tie.Need-slice-aggregate-row-of
-slice-aggregate-row-of c =
-    let key = c .before .before .before .args .owners .key in
-    let n : length key ≡ maxOwners = search needs in
-    sym (length-take-le (c .before .lesser .result) key (omega (arith, c .before .lesser .ensures)))
+loop-holds : tie.Need-loop-holds Inv-loop μ-loop
+loop-holds c = (search needs, search needs, λ j h. absurd (omega arith))
 
-row-of-requires : tie.Need-row-of-requires
-row-of-requires c κs = search needs
+order-word-requires : tie.Need-order-word-requires Inv-loop μ-loop
+order-word-requires c κs = search needs
 
-returns : tie.Need-returns
+mul-row : tie.Need-mul-row Inv-loop μ-loop
+mul-row c = search needs
+
+array-write-row : tie.Need-array-write-row Inv-loop μ-loop
+array-write-row c = search needs
+
+add-i : tie.Need-add-i Inv-loop μ-loop
+add-i c = search needs
+
+loop-less : tie.Need-loop-less Inv-loop μ-loop
+loop-less c = search needs
+
+loop-again : tie.Need-loop-again Inv-loop μ-loop
+loop-again c =
+    let a = c .before .before .before .args in
+    let l = c .before .before .loop in
+    let more = words-more (orderWord (a .place)) (l .row) (l .i) _ (omega (arith, l .inv .1)) (c .order-word .ensures) (l .inv .2) in
+    (search needs, simp length-set (l .inv .1), more)
+
+returns : tie.Need-returns Inv-loop μ-loop
+unfolding orderRowOf
 returns c =
-    let a = c .before .before .before .before .args in
-    let key = a .owners .key in
-    let n : length key ≡ maxOwners = search needs in
-    let held = ap (λ (k : ℕ). take k key) (c .before .before .lesser .ensures) ∙ take-min (a .owners .count) maxOwners key n in
-    c .row-of .ensures ∙ ap (orderRowOf (a .place)) held
+    let a = c .before .before .args in
+    let l = c .before .loop in
+    let e : l .i ≡ groupWords = omega arith in
+    words-all (orderWord (a .place)) groupWords (l .row) (l .inv .1) (rw e at (l .inv .2))
 
 pub order-row-spec : {M : Type 1} → statement M
 order-row-spec =
     tie.close
     (tie.spec
-    lesser-requires
-    array-share-prefix-key
-    slice-aggregate-row-of
-    row-of-requires
+    Inv-loop
+    μ-loop
+    loop-holds
+    order-word-requires
+    mul-row
+    array-write-row
+    add-i
+    loop-less
+    loop-again
     returns)
