@@ -53,7 +53,7 @@ use Rattle.defining.specs.Parts.{faultsOf, ownersNamed}
 use Rattle.defining.specs.Carried.{carried}
 use Rattle.defining.specs.Sent.{assignOrders}
 use Rattle.defining.specs.Tests.{defineForm, defineStand}
-use Rattle.defining.proofs.OrderRows.{order-group}
+use Rattle.making.proofs.OrderRows.{order-group}
 
 standing : (c : Contents) → Sound c → Standing placing (ledgerOf c)
 standing c w = written-form placing (ledgerOf c) (law-form c w) .standing

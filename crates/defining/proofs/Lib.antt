@@ -3,7 +3,6 @@ pub mod Downward
 pub mod Counting
 pub mod Making
 pub mod Products
-pub mod OrderRows
 pub mod Assigning
 pub mod Standing
 pub mod Carried

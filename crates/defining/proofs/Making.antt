@@ -1,115 +1,31 @@
--- A made row is the row of the group after the define.
+-- The row that is put is the row of the group after the define.
 use mathlib.Core.Path.{_≡_, refl, sym, ap, subst, _∙_}
 use mathlib.Core.Bool.{Bool, true, false, cond, true≢false}
-use mathlib.Core.List.{List, [], _∷_, _++_}
+use mathlib.Core.List.{List, [], _∷_}
 use mathlib.Core.Option.{Option, none, some}
-use Prim.Native.Nat.{ℕ, zero, suc, _+_, _-_, _≤_, _<_}
+use Prim.Native.Nat.{ℕ, _+_, _≤_, _<_}
 use native.Mathlib.Omega.{arith}
 use lib.Dec.{eqb}
-use lib.ListN.{length, getD, take, drop, replicate, length-append, length-replicate}
-use lib.Seq.{drop-cons, take-at, drop-at, take-length, getD-at, length-take-le}
-use borrow.Author.Tests.{ne-eqb}
+use lib.ListN.{length, getD, take, drop, replicate}
+use lib.Seq.{getD-at, length-take-le}
 use Rattle.rules.specs.Lists.{present}
-use Rattle.rules.specs.Parameters.{noParameters, over, badName}
+use Rattle.rules.specs.Parameters.{noParameters}
 use Rattle.rules.specs.Entries.{find}
 use Rattle.rules.specs.Ledger.{Group}
 use Rattle.rules.specs.Steps.{groupAfter}
-use Rattle.rules.specs.Written.{maxOwners}
 use Rattle.rules.proofs.ByNumber.{numbers-linear}
-use Rattle.rows.specs.Layout.{groupWords, maxLetters, ownerCount}
+use Rattle.rows.specs.Layout.{groupWords}
 use Rattle.store.specs.Lists.{Plain}
-use Rattle.store.specs.Storage.{Rows, groupOf, groupRow, groupsOf, counted}
+use Rattle.store.specs.Storage.{Rows, groupOf, groupRow, groupsOf}
 use Rattle.store.specs.declared.Place.{Place}
 use Rattle.store.specs.declared.Place.the-variants.{At, Free}
 use Rattle.store.proofs.Rows.{length-items}
 use Rattle.store.proofs.HalvingLaws.{item-at}
-use Rattle.store.proofs.Groups.{name-few}
-use Rattle.order.specs.Row.{heldOf, lettersOf, words}
-use Rattle.defining.specs.Row.{madeRow}
-use Rattle.defining.specs.Groups.{rowFor, Fine, FineGroups, FineOrder}
+use Rattle.making.specs.Row.{madeRow}
+use Rattle.making.specs.Fine.{Fine}
+use Rattle.making.proofs.Making.{made-is, blank-row}
+use Rattle.defining.specs.Groups.{rowFor, FineGroups, FineOrder}
 use Rattle.store.proofs.Parting.{Parted}
-
-held-over : (new old : Option ℕ) → cond (eqb (heldOf new) 0) (heldOf old) (heldOf new) ≡ heldOf (over new old)
-held-over none old = refl
-held-over (some v) old = rw (ne-eqb (suc v) 0 (λ e. omega arith))
-
-letters-over : (o old : Option (List ℕ)) → badName o ≡ false → (b : Bool) → eqb (length (lettersOf o)) 0 ≡ b
-    → lettersOf (over o old) ≡ cond b (lettersOf old) (lettersOf o)
-letters-over none old q true e = refl
-letters-over none old q false e = absurd (true≢false e)
-letters-over (some []) old q b e = absurd (true≢false q)
-letters-over (some (x ∷ l)) old q true e = absurd (true≢false (sym e ∙ ne-eqb (length (x ∷ l)) 0 (λ z. omega arith)))
-letters-over (some (x ∷ l)) old q false e = refl
-
-words-slice : (l : List ℕ) (n k : ℕ) → k + n ≤ length l → words (λ j. getD l j 0) n k ≡ take n (drop k l)
-words-slice l zero k h = refl
-words-slice l (suc n) k h = rw (drop-cons l k 0 (omega arith)) (ap (λ (z : List ℕ). getD l k 0 ∷ z) (words-slice l n (suc k) (omega arith)))
-
-length-counted : (n : ℕ) (l : List ℕ) → length l ≤ n → length (counted n l) ≡ n + 1
-length-counted n l h = omega (arith, length-append l (replicate (n - length l) 0), length-replicate {A = ℕ} (n - length l) 0)
-
--- the words of a name and of the owners, in a group's row
-abbrev nameWords : Group → List ℕ
-nameWords x = counted maxLetters (lettersOf (x .parameters .name))
-
-abbrev ownerWords : Group → List ℕ
-ownerWords x = counted maxOwners (x .owners)
-
-module _ (g : ℕ) (x : Group) (f : Fine x) where
-  name-long : length (nameWords x) ≡ 17
-  name-long = length-counted 16 (lettersOf (x .parameters .name)) (name-few (x .parameters .name) (f .0))
-
-  owners-long : length (ownerWords x) ≡ maxOwners + 1
-  owners-long = length-counted maxOwners (x .owners) (f .1)
-
-  row-long : length (groupRow (g, x)) ≡ groupWords
-  unfolding groupRow
-  row-long = omega (arith, length-append (nameWords x) (ownerWords x), name-long, owners-long)
-
-  name-words : words (λ j. getD (groupRow (g, x)) j 0) 17 7 ≡ nameWords x
-  unfolding groupRow
-  name-words = words-slice (groupRow (g, x)) 17 7 (omega (arith, row-long)) ∙ take-at (nameWords x) (ownerWords x) 17 name-long
-
-  owner-words : words (λ j. getD (groupRow (g, x)) j 0) (maxOwners + 1) ownerCount ≡ ownerWords x
-  unfolding groupRow
-  owner-words =
-      words-slice (groupRow (g, x)) (maxOwners + 1) ownerCount (omega (arith, row-long))
-      ∙ ap (take (maxOwners + 1)) (drop-at (nameWords x) (ownerWords x) 17 name-long)
-      ∙ ap (λ (n : ℕ). take n (ownerWords x)) (sym owners-long) ∙ take-length (ownerWords x)
-
--- a row of zeros is that of a bare group
-blank-row : replicate groupWords 0 ≡ groupRow (0, record { owners = []; parameters = noParameters })
-unfolding groupRow
-blank-row = refl
-
-module _ (g n : ℕ) (keeps : Bool) (new old : Group) (fn : Fine new) (fo : Fine old) where
-  abbrev oldWord : ℕ → ℕ
-  oldWord j = getD (groupRow (n, old)) j 0
-
-  abbrev newWord : ℕ → ℕ
-  newWord j = getD (groupRow (0, new)) j 0
-
-  -- the name's words: kept where the order has none
-  name-part : (b : Bool) → eqb (length (lettersOf (new .parameters .name))) 0 ≡ b
-      → words (λ j. cond b (oldWord j) (newWord j)) 17 7 ≡ counted maxLetters (lettersOf (over (new .parameters .name) (old .parameters .name)))
-  name-part true e = name-words n old fo ∙ ap (counted 16) (sym (letters-over (new .parameters .name) (old .parameters .name) (fn .0) true e))
-  name-part false e = name-words 0 new fn ∙ ap (counted 16) (sym (letters-over (new .parameters .name) (old .parameters .name) (fn .0) false e))
-
-  owner-part : (k : Bool) → words (λ j. cond k (oldWord j) (newWord j)) (maxOwners + 1) ownerCount ≡ counted maxOwners (cond k (old .owners) (new .owners))
-  owner-part true = owner-words n old fo
-  owner-part false = owner-words 0 new fn
-
-  made-is : madeRow g keeps (groupRow (0, new)) (groupRow (n, old)) ≡ groupRow (g, groupAfter keeps new (some old))
-  unfolding madeRow groupRow
-  made-is =
-      let p = new .parameters in
-      let q = old .parameters in
-      λ i.
-      g ∷ held-over (p .setReference) (q .setReference) i ∷ held-over (p .acknowledgedCall) (q .acknowledgedCall) i
-      ∷ held-over (p .broadcast) (q .broadcast) i ∷ held-over (p .class) (q .class) i ∷ held-over (p .lifetime) (q .lifetime) i
-      ∷ held-over (p .temporary) (q .temporary) i ∷ (name-part (eqb (length (lettersOf (p .name))) 0) refl i ++ owner-part keeps i)
-
--- ---- the row that is put ----
 
 fine-find : (l : List (ℕ × Group)) → FineGroups l → (g : ℕ) (x : Group) → find eqb l g ≡ some x → Fine x
 fine-find [] f g x e = let z : _≡_ {A = ℕ} 0 1 = cc in absurd (omega arith)

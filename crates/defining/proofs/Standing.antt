@@ -17,7 +17,8 @@ use Rattle.rules.proofs.Ranges.{in-range}
 use Rattle.store.specs.Storage.{Contents, placing, ledgerOf}
 use Rattle.store.specs.Form.{Sound}
 use Rattle.store.proofs.FormLaws.{law-form}
-use Rattle.defining.specs.Groups.{Fine, FineGroups}
+use Rattle.making.specs.Fine.{Fine}
+use Rattle.defining.specs.Groups.{FineGroups}
 
 fine-good : (e : ℕ × Group) → goodGroup placing e ≡ true → Fine (e .1)
 fine-good e h =

@@ -1,22 +1,21 @@
 -- Groups made, or made anew, each at its place.
 use mathlib.Core.Path.{_≡_}
-use Prim.Native.Nat.{ℕ, _≤_}
+use Prim.Native.Nat.{ℕ}
 use mathlib.Core.Bool.{Bool, false}
 use mathlib.Core.List.{List, [], _∷_}
 use lib.Dec.{eqb, ltb}
-use lib.ListN.{length, getD, replicate}
+use lib.ListN.{getD, replicate}
 use Rattle.rules.specs.Entries.{find}
 use Rattle.rules.specs.Placing.{puts}
 use Rattle.rules.specs.ByNumber.{byKey}
-use Rattle.rules.specs.Parameters.{badName}
 use Rattle.rules.specs.Ledger.{Group}
 use Rattle.rules.specs.Steps.{groupAfter}
-use Rattle.rules.specs.Written.{maxOwners}
 use Rattle.rows.specs.Layout.{groupWords}
 use Rattle.store.specs.Storage.{Rows, groupOf, groupRow}
 use Rattle.store.specs.declared.Place.{Place}
 use Rattle.store.specs.declared.Place.the-variants.{At, Free}
-use Rattle.defining.specs.Row.{madeRow}
+use Rattle.making.specs.Row.{madeRow}
+use Rattle.making.specs.Fine.{Fine}
 
 -- each by the law, from what stood before
 abbrev pub madeGroups : Bool → Group → List ℕ → List (ℕ × Group) → List (ℕ × Group)
@@ -28,9 +27,6 @@ rowFor (At i) g keeps order rows = madeRow g keeps order (getD rows i [])
 rowFor (Free i) g keeps order rows = madeRow g false order (replicate groupWords 0)
 
 -- what a row has room for
-abbrev pub Fine : Group → Type 0
-Fine x = (badName (x .parameters .name) ≡ false) × (length (x .owners) ≤ maxOwners)
-
 abbrev pub FineGroups : List (ℕ × Group) → Type 0
 FineGroups [] = Unit {0}
 FineGroups (e ∷ l) = Fine (e .1) × FineGroups l

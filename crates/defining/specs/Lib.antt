@@ -2,7 +2,6 @@
 pub mod Parts
 pub mod Putting
 pub mod Pairs
-pub mod Row
 pub mod Groups
 pub mod Carried
 pub mod Sent

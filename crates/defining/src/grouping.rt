@@ -2,23 +2,20 @@
 use crate::Step;
 use crate::putting::behind;
 use crate::putting::step_after;
+use making::made_row;
 use order::GroupKey;
 use order::Groups;
 use order::keys::group_at;
 use order::keys::group_count;
 use rows::GROUP_WORDS;
-use rows::KEY_WORD;
-use rows::NAME_LENGTH;
-use rows::OWNER_COUNT;
 use store::Place;
 use store::places::group_place;
-ghost use Prim.Native.Nat.{_+_, _≤_, _<_};
+ghost use Prim.Native.Nat.{_+_, _≤_};
 ghost use lib.Dec.{eqb, ltb};
 ghost use lib.ListN.{length};
 ghost use mathlib.Core.Bool.{true};
 ghost use mathlib.Core.List.{map};
 ghost use mathlib.Core.Path.{_≡_};
-ghost use Rattle.rows.specs.Layout.{groupWords};
 ghost use Rattle.order.specs.Keys.{groupKeys};
 ghost use Rattle.rules.specs.Lists.{rises};
 ghost use Rattle.order.specs.Walks.{moved, onto};
@@ -26,57 +23,6 @@ ghost use Rattle.store.specs.Places.{placeOf, behindOf};
 ghost use Rattle.store.specs.Storage.{groupOf, groupRow, groupsOf};
 ghost use Rattle.defining.specs.Groups.{madeGroups, rowFor, FineGroups, FineOrder};
 ghost use Rattle.defining.specs.Putting.{Opens, Puts, Takes};
-ghost use Rattle.defining.specs.Row.{keepsWord, madeWord, madeRow};
-
-fn keeps_word(keeps: bool, order: [u64; GROUP_WORDS], j: usize) -> bool
-    requires { ⌜ j < groupWords ⌝ }
-    ensures { λ r. ⌜ r ≡ keepsWord keeps order j ⌝ }
-{
-    if j < NAME_LENGTH {
-        return order[j] == 0;
-    }
-    if j < OWNER_COUNT {
-        return order[NAME_LENGTH] == 0;
-    }
-    keeps
-}
-
-fn made_word(
-    group: GroupKey,
-    keeps: bool,
-    order: [u64; GROUP_WORDS],
-    old: [u64; GROUP_WORDS],
-    j: usize,
-) -> u64
-    requires { ⌜ j < groupWords ⌝ }
-    ensures { λ r. ⌜ r ≡ madeWord (group .0) keeps order old j ⌝ }
-{
-    if j == KEY_WORD {
-        return group.0;
-    }
-    if keeps_word(keeps, order, j) {
-        return old[j];
-    }
-    order[j]
-}
-
-// A group's row, made from the order's row and the row that was there.
-fn made_row(
-    group: GroupKey,
-    keeps: bool,
-    order: [u64; GROUP_WORDS],
-    old: [u64; GROUP_WORDS],
-) -> [u64; GROUP_WORDS]
-    ensures { λ r. ⌜ r ≡ madeRow (group .0) keeps order old ⌝ }
-{
-    let mut row = order;
-    let mut i: usize = 0;
-    while i < GROUP_WORDS {
-        row[i] = made_word(group, keeps, order, old, i);
-        i += 1;
-    }
-    row
-}
 
 // The groups from `from` to `to` move up by so many places.
 fn move_groups(groups: &mut [[u64; GROUP_WORDS]], from: usize, to: usize, by: usize)

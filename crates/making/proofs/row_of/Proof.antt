@@ -1,21 +1,21 @@
--- `defining::made_row` meets its contract: the words passed are made.
+-- `making::row_of` meets its contract: the words passed are made.
 use mathlib.Core.Path.{_≡_}
 use native.Mathlib.Omega.{arith}
 use Prim.Native.Nat.{ℕ, _≤_, _<_, _-_}
 use lib.ListN.{length, getD, length-set}
 use Rattle.rows.specs.Layout.{groupWords}
 use Rattle.order.proofs.Words.{words-all, words-more}
-use Rattle.defining.specs.Row.{madeWord, madeRow}
+use Rattle.making.specs.Row.{madeWord, madeRow}
 use borrow.Author.Needs.{needs}
-use Rattle.defining.proofs.grouping.made_row.Statement.{statement}
-use Rattle.defining.proofs.grouping.made_row.Tie as tie
+use Rattle.making.proofs.row_of.Statement.{statement}
+use Rattle.making.proofs.row_of.Tie as tie
 
 abbrev Inv-loop : tie.InvT-loop
-Inv-loop group keeps order old row₀ i₀ row i =
-    (i ≤ groupWords) × (length row ≡ groupWords) × ((j : ℕ) → j < i → getD row j 0 ≡ madeWord (group .0) keeps order old j)
+Inv-loop group order old owners row₀ i₀ row i =
+    (i ≤ groupWords) × (length row ≡ groupWords) × ((j : ℕ) → j < i → getD row j 0 ≡ madeWord (group .0) order old owners j)
 
 abbrev μ-loop : tie.MeasureT-loop
-μ-loop group keeps order old row₀ i₀ row i = groupWords - i
+μ-loop group order old owners row₀ i₀ row i = groupWords - i
 
 loop-holds : tie.Need-loop-holds Inv-loop μ-loop
 loop-holds c = (search needs, search needs, λ j h. absurd (omega arith))
@@ -37,23 +37,22 @@ loop-less c = search needs
 
 loop-again : tie.Need-loop-again Inv-loop μ-loop
 loop-again c =
-    let a = c .before .before .before .args in
-    let l = c .before .before .loop in (
-      search needs,
-      simp length-set (l .inv .1),
-      words-more (madeWord (a .group .0) (a .keeps) (a .order) (a .old)) (l .row) (l .i) _ (omega (arith, l .inv .1)) (c .made-word .ensures) (l .inv .2),
-    )
+    let a = c .before .before .before .before .args in
+    let l = c .before .before .loop in
+    let word = madeWord (a .group .0) (a .order) (a .old) (a .owners .now) in
+    let more = words-more word (l .row) (l .i) _ (omega (arith, l .inv .1)) (c .made-word .ensures) (l .inv .2) in
+    (search needs, simp length-set (l .inv .1), more)
 
 returns : tie.Need-returns Inv-loop μ-loop
 unfolding madeRow
 returns c =
-    let a = c .before .before .args in
+    let a = c .before .before .before .args in
     let l = c .before .loop in
     let e : l .i ≡ groupWords = omega arith in
-    words-all (madeWord (a .group .0) (a .keeps) (a .order) (a .old)) groupWords (l .row) (l .inv .1) (rw e at (l .inv .2))
+    words-all (madeWord (a .group .0) (a .order) (a .old) (a .owners .now)) groupWords (l .row) (l .inv .1) (rw e at (l .inv .2))
 
-pub made-row-spec : {M : Type 1} → statement M
-made-row-spec =
+pub row-of-spec : {M : Type 1} → statement M
+row-of-spec =
     tie.close
     (tie.spec
     Inv-loop

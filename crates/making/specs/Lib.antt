@@ -1,0 +1,3 @@
+-- The definitions that the contracts of a made row cite.
+pub mod Row
+pub mod Fine
