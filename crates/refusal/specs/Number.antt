@@ -3,7 +3,7 @@ use Prim.Native.Nat.{ℕ}
 use Rattle.refusal.specs.declared.Refusal.{Refusal}
 use Rattle.refusal.specs.declared.Refusal.the-variants.{EndsInside, BitsRemain, WrongKind, Reserved, NoGroup, NothingFollows, TypeThree}
 use Rattle.refusal.specs.declared.Refusal.the-variants.{NoSpace, BadLine, BadOrder, FormNotTaken, NoSuchGroup, NotOwner, NotOpen, NothingToDo}
-use Rattle.refusal.specs.declared.Refusal.the-variants.{Full, NoRoom, NotWritten, BadRange, TooManyNumbers}
+use Rattle.refusal.specs.declared.Refusal.the-variants.{Full, NoRoom, NotWritten, BadRange, TooManyNumbers, TooManyOwners}
 
 abbrev pub numberOf : Refusal → ℕ
 numberOf EndsInside = 1
@@ -26,3 +26,4 @@ numberOf NoRoom = 17
 numberOf NotWritten = 18
 numberOf BadRange = 19
 numberOf TooManyNumbers = 20
+numberOf TooManyOwners = 21

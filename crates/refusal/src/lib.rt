@@ -43,6 +43,8 @@ pub enum Refusal {
     BadRange,
     // Ledger: a list of too many numbers.
     TooManyNumbers,
+    // Ledger: a group with too many owners after the order.
+    TooManyOwners,
 }
 
 // The number of a refusal.
@@ -70,5 +72,6 @@ pub fn number(r: Refusal) -> u8
         Refusal::NotWritten => 18,
         Refusal::BadRange => 19,
         Refusal::TooManyNumbers => 20,
+        Refusal::TooManyOwners => 21,
     }
 }

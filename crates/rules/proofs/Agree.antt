@@ -12,7 +12,7 @@ use Rattle.rules.specs.Change.{after}
 use Rattle.rules.specs.Outgoing.{outgoing}
 use Rattle.rules.specs.Refusals.{accepted, refusal}
 use Rattle.rules.specs.Replies.{listing, showing}
-use Rattle.rules.specs.Ledger.{Ledger, view, members, list, show}
+use Rattle.rules.specs.Ledger.{Ledger, view, members, owners, list, show}
 use Rattle.rules.specs.Placing.{Placing, Lawful}
 use Rattle.rules.specs.Steps.{apply, tally, refused, step, sent}
 use Rattle.rules.specs.History.{History, start, _then_, Named, named, namedIn, tallyIn, judge, taken, Past, onward, past}
@@ -28,7 +28,7 @@ module _ (p : Placing) (laws : Lawful p) where
   module _ (l : Ledger) (s : Standing p l) (n : Named) (w : Within (view l) n) where
     -- what is counted and listed is what the history says
     tally-agree : (e : Effect) → tally p l e ≡ tallyIn (view l) (named e n) e
-    tally-agree e = λ i. record { members = λ g. ms g i; groups = ng i; pairs = np i }
+    tally-agree e = λ i. record { members = λ g. ms g i; owners = λ g. os g i; groups = ng i; pairs = np i }
       where
         l′ : Ledger
         l′ = apply p l e
@@ -47,6 +47,9 @@ module _ (p : Placing) (laws : Lawful p) where
 
         ms : (g : ℕ) → members l g ≡ membersIn (view l) (n′ .radios) g
         ms = members-agree l n′ (within-more (view l) e n w)
+
+        os : (g : ℕ) → length (owners l′ g) ≡ length (ownersIn (after (view l) e) (n′ .owners) g)
+        os g = ap length (owners-agree l′ n′ w′ g) ∙ ap (λ (x : World). length (ownersIn x (n′ .owners) g)) says
 
         ng : length (l′ .groups) ≡ groupTotal (after (view l) e) (n′ .groups)
         ng = groups-total l′ n′ w′ (groups-single p laws l′ s′) ∙ ap (λ (x : World). groupTotal x (n′ .groups)) says

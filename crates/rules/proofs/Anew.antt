@@ -1,8 +1,8 @@
 -- A group that is made starts with what the define gives it and nothing else, whatever was there under its number before.
 use Prim.Native.Nat.{ℕ}
 use mathlib.Core.Path.{_≡_, refl, sym, _∙_, ap, subst}
-use mathlib.Core.Bool.{Bool, true, false, cond, not, _&&_, _||_}
-use mathlib.Core.List.{[], _∷_}
+use mathlib.Core.Bool.{Bool, true, false, cond, not, _&&_}
+use mathlib.Core.List.{List, [], _∷_}
 use mathlib.Core.Option.{Option, none, some}
 use native.Mathlib.Omega.{arith}
 use Rattle.rules.specs.Lists.{present, mem}
@@ -14,21 +14,22 @@ use Rattle.rules.specs.Order.{Define, Delete, Step, define, delete, defi
 use Rattle.rules.specs.World.{World}
 use Rattle.rules.specs.Effect.{effect}
 use Rattle.rules.specs.Change.{after}
-use Rattle.rules.specs.Refusals.{accepted, refuses, badValues}
+use Rattle.rules.specs.Refusals.{accepted, tests}
 use Rattle.rules.specs.Demand.{Owns, told, Exactly}
 use Rattle.refusal.specs.declared.Refusal.{Refusal}
 use Rattle.rules.specs.Replies.{entries}
 use Rattle.rules.specs.Ledger.{Group, group, ownersOf, parametersOf, samePair, list}
 use Rattle.rules.specs.Entries.{find}
-use Rattle.rules.specs.History.{History, _then_, world, stands, owner, mark, radiosIn, refusalIn}
+use Rattle.rules.specs.History.{History, _then_, namedIn, tallyIn, world, stands, owner, mark, radiosIn, refusalIn}
 use Rattle.rules.specs.Placing.{Placing, Lawful}
 use Rattle.rules.specs.ByNumber.{byNumber}
 use Rattle.rules.specs.Run.{run}
 use Rattle.rules.proofs.Tests.{clash, and-in, or-l}
+use Rattle.rules.proofs.LawOrder.{tests-pass}
 use Rattle.rules.proofs.ListLaws.{mem-once, mem-head, no-member}
 use Rattle.rules.proofs.ByNumber.{by-number}
 use Rattle.rules.proofs.Agree.{run-agree}
-use Rattle.rules.proofs.Written.{passed, run-form}
+use Rattle.rules.proofs.Written.{run-form}
 use Rattle.rules.proofs.Demand.{radios-marked, list-exact, exactly-unique}
 
 -- nothing is kept of a group that does not stand
@@ -57,6 +58,10 @@ gone-bare h g = subst (λ (w : World). w .stands g ≡ false → Bare w g) (run-
     unmarked r none q e = refl
     unmarked r (some m) q e = clash (sym (run-form byNumber by-number h .there g r (ap present q)) ∙ e)
 
+-- the tests of a further step
+abbrev pub testsIn : History → Step → List (Refusal × Bool)
+testsIn h s = tests (world h) (tallyIn (world h) (namedIn (h then s)) (effect (world h) s)) s
+
 -- an accepted step has its effect
 pub world-taken : (h : History) (s : Step) → refusalIn h s ≡ none → world (h then s) ≡ after (world h) (effect (world h) s)
 world-taken h s e = ap (λ (r : Option Refusal). cond (accepted r) (after (world h) (effect (world h) s)) (world h)) e
@@ -75,7 +80,7 @@ module _ (h : History) (o : Define) (room g : ℕ)
 
   -- its owners are the asker and those listed
   pub made-owner : (a : ℕ) → owner (h then define o room) g a ≡ mem a (defineOwners o)
-  made-owner a = ap (λ (w : World). w .owner g a) (world-taken h (define o room) accepts) ∙ rw (names, gone) refl
+  made-owner a = ap (λ (w : World). w .owner g a) (world-taken h (define o room) accepts) ∙ rw (names, gone-bare h g gone .owners a) refl
 
   -- its parameters are those of this define
   pub made-parameters : world (h then define o room) .parameters g ≡ replaced (o .parameters) noParameters
@@ -93,7 +98,7 @@ module _ (h : History) (o : Define) (room g : ℕ)
 
   -- the asker of a define that is accepted has numbers of 24 bits
   narrow-asker : wideNumber (o .asker) ≡ false
-  narrow-asker = or-l (wideNumber (o .asker)) _ (passed _ (wideNumber (o .asker) || (refuses (o .judged) || badValues o)) _ accepts .0)
+  narrow-asker = or-l (wideNumber (o .asker)) _ (tests-pass (testsIn h (define o room)) accepts 0)
 
 -- a define that assigns none makes an empty group: the asker's list holds nothing, and needs no room
 pub made-empty : (p : Placing) → Lawful p → (h : History) (o : Define) (room : ℕ) (g : Number) → wideNumber g ≡ false

@@ -1,16 +1,16 @@
 -- Demand 3: after any history an owner's list, with room, is exactly the history's, and so is an owner's show.
 use Prim.Native.Nat.{ℕ, _≤_}
 use mathlib.Core.Path.{_≡_, refl, sym, ap, _∙_, subst}
-use mathlib.Core.Bool.{true, false, cond, not, _&&_}
+use mathlib.Core.Bool.{true, false, cond, not}
 use mathlib.Core.List.{List, [], _∷_}
 use mathlib.Core.Option.{Option, none, some}
-use lib.Dec.{eqb, ltb, leb}
+use lib.Dec.{eqb}
 use lib.ListN.{length}
-use borrow.Author.Tests.{le-ltb, not-true}
-use Rattle.rules.specs.Lists.{all, present, mem, rising, Rising}
+use borrow.Author.Tests.{le-ltb}
+use Rattle.rules.specs.Lists.{present, mem, rising, Rising}
 use Rattle.rules.specs.Entries.{find}
 use Rattle.rules.specs.Number.{Number, key, wideKey}
-use Rattle.rules.specs.Parameters.{noParameters, badParameters}
+use Rattle.rules.specs.Parameters.{noParameters}
 use Rattle.rules.specs.Mark.{Mark}
 use Rattle.rules.specs.World.{World, ownersIn}
 use Rattle.rules.specs.Refusals.{accepted, showRefusal, listRefusal}
@@ -18,16 +18,16 @@ use Rattle.rules.specs.Replies.{Entry, entries, Listing, Showing}
 use Rattle.rules.specs.Ledger.{Group, samePair, group, ownersOf, list, show}
 use Rattle.rules.specs.Placing.{Placing, Lawful}
 use Rattle.rules.specs.ByNumber.{byNumber}
-use Rattle.rules.specs.Written.{maxOwners, goodOwners, goodGroup, goodMark}
+use Rattle.rules.specs.Written.{goodMark}
 use Rattle.rules.specs.History.{History, namedIn, world, stands, owner, mark, radiosIn, listIn, showIn}
 use Rattle.rules.specs.Run.{run}
 use Rattle.rules.specs.Demand.{Owns, told, entryRadios, Exactly, Tells}
-use Rattle.rules.proofs.Tests.{split, clash, and-l, and-r}
-use Rattle.rules.proofs.ListLaws.{all-in, rising-keep, rising-rising}
+use Rattle.rules.proofs.Tests.{split, clash}
+use Rattle.rules.proofs.ListLaws.{rising-keep, rising-rising}
 use Rattle.rules.proofs.ByNumber.{by-number}
 use Rattle.rules.proofs.Totals.{within-history, narrow}
 use Rattle.rules.proofs.Agree.{run-agree, list-agree, show-agree}
-use Rattle.rules.proofs.Written.{run-form}
+use Rattle.rules.proofs.Written.{run-form, standing-narrow}
 use Rattle.rules.proofs.Listing.{same-listed, entries-radios, entries-say}
 
 -- ---- the history's own list ----
@@ -59,20 +59,7 @@ module _ (p : Placing) (laws : Lawful p) (h : History) where
       there (some m) f e = f m refl .0
 
   pub owner-narrow : (g a : ℕ) → owner h g a ≡ true → wideKey a ≡ false
-  owner-narrow g a = subst (λ (w : World). w .owner g a ≡ true → wideKey a ≡ false) (run-agree p laws h)
-      (there (group (run p h) g) (run-form p laws h .groups g))
-    where
-      there : (o : Option Group) → ((x : Group) → o ≡ some x → goodGroup p (g, x) ≡ true) → mem a (ownersOf o) ≡ true → wideKey a ≡ false
-      there none f e = clash (sym e)
-      there (some x) f e =
-          let few = ltb 0 (length (x .owners)) in
-          let many = leb (length (x .owners)) maxOwners in
-          let apart = p .owners .form (x .owners) in
-          let narrow = all (λ a. not (wideKey a)) (x .owners) in
-          let bad = badParameters (x .parameters) in
-          let owners = and-l (goodOwners p (x .owners)) (not bad) (and-r (not (wideKey g)) (goodOwners p (x .owners) && not bad) (f x refl)) in
-          let all-narrow = and-r apart narrow (and-r many (apart && narrow) (and-r few (many && (apart && narrow)) owners)) in
-          not-true (wideKey a) (all-in (λ a. not (wideKey a)) a (x .owners) all-narrow e)
+  owner-narrow g a = subst (λ (w : World). w .owner g a ≡ true → wideKey a ≡ false) (run-agree p laws h) (standing-narrow p (run p h) (run-form p laws h) g a)
 
   -- a group that has an owner stands
   owned-stands : (g a : ℕ) → owner h g a ≡ true → stands h g ≡ true

@@ -31,6 +31,12 @@ rising-snoc l x = split (mem x (rising l))
         swapped false true = refl
         swapped false false = refl
 
+-- whether those who come last are in order makes no difference
+pub rising-late : (a b : List ℕ) → rising (a ++ rising b) ≡ rising (a ++ b)
+rising-late a b = same-members (rising (a ++ rising b)) (rising (a ++ b)) (rising-rising (a ++ rising b)) (rising-rising (a ++ b))
+    (λ z. mem-rising z (a ++ rising b) ∙ mem-append z a (rising b) ∙ ap (λ (t : Bool). mem z a || t) (mem-rising z b)
+    ∙ sym (mem-append z a b) ∙ sym (mem-rising z (a ++ b)))
+
 -- ---- how many ----
 
 keep-every : (l : List ℕ) → keep (λ y. true) l ≡ l

@@ -1,4 +1,5 @@
 pub mod Tests
+pub mod LawOrder
 pub mod ListLaws
 pub mod EntryLaws
 pub mod Walks
@@ -25,7 +26,7 @@ pub mod Alike
 pub mod Stretches
 pub mod Anew
 pub mod Visitor
-pub mod LawOrder
+pub mod Ownership
 pub mod Steps
 pub mod Room
 pub mod Spelled

@@ -1,14 +1,14 @@
 -- Lists of numbers: membership, rising lists, lists without repeats, sums.
-use Prim.Native.Nat.{ℕ, suc, _≤_, _<_}
+use Prim.Native.Nat.{ℕ, zero, suc, _≤_, _<_}
 use mathlib.Core.Path.{_≡_, refl, sym, _∙_, ap}
 use mathlib.Core.Bool.{Bool, true, false, not, _&&_, _||_}
 use mathlib.Core.List.{List, [], _∷_, _++_}
 use lib.Dec.{eqb, ltb}
-use lib.ListN.{length}
+use lib.ListN.{length, getD}
 use native.Mathlib.Omega.{arith}
 use borrow.Author.Tests.{eqb-true, eqb-false, ltb-true, ltb-false, eq-eqb, ne-eqb, not-true}
 use Rattle.rules.specs.Lists.{any, all, unique, keep, mem, once, insert, inOrder, rising, Above, Rising, sum}
-use Rattle.rules.proofs.Tests.{split, clash, and-false, and-true, and-in, and-l, and-r, or-assoc, or-swap, or-l, or-r}
+use Rattle.rules.proofs.Tests.{split, clash, and-false, and-true, and-in, and-l, and-r, or-assoc, or-swap, or-second, or-l, or-r}
 
 pub mem-keep : (p : ℕ → Bool) (x : ℕ) (l : List ℕ) → mem x (keep p l) ≡ (mem x l && p x)
 mem-keep p x [] = refl
@@ -23,6 +23,14 @@ any-append p (x ∷ a) b = cc (any-append p a b, or-assoc (p x) (any p a) (any p
 
 pub mem-append : (x : ℕ) (a b : List ℕ) → mem x (a ++ b) ≡ (mem x a || mem x b)
 mem-append x a b = any-append (eqb x) a b
+
+pub mem-later : (x : ℕ) (a b : List ℕ) → mem x b ≡ true → mem x (a ++ b) ≡ true
+mem-later x a b h = split (mem x a) (λ e. cc (mem-append x a b)) (λ e. cc (mem-append x a b))
+
+-- what holds of all numbers of two lists holds of those of both together
+pub mem-both : (P : ℕ → Type 0) (a b : List ℕ) → ((x : ℕ) → mem x a ≡ true → P x) → ((x : ℕ) → mem x b ≡ true → P x)
+    → (x : ℕ) → mem x (a ++ b) ≡ true → P x
+mem-both P a b h k x e = split (mem x a) (h x) (λ n. k x (cc (mem-append x a b)))
 
 pub eqb-same : (x : ℕ) → eqb x x ≡ true
 eqb-same x = eq-eqb x x refl
@@ -149,6 +157,11 @@ above-mem x (y ∷ l) a = cc (ne-eqb x y (ne x y (a .0)), above-mem x l (a .1))
 pub mem-head : (x : ℕ) (l : List ℕ) → mem x (x ∷ l) ≡ true
 mem-head x l = cc (eqb-same x)
 
+pub mem-at : (l : List ℕ) (i : ℕ) → i < length l → mem (getD l i 0) l ≡ true
+mem-at [] i h = absurd (omega arith)
+mem-at (x ∷ l) zero h = mem-head x l
+mem-at (x ∷ l) (suc i) h = or-second (eqb (getD l i 0) x) (mem (getD l i 0) l) (mem-at l i (omega arith))
+
 pub no-member : (l : List ℕ) → ((x : ℕ) → mem x l ≡ false) → l ≡ []
 no-member [] h = refl
 no-member (x ∷ l) h = clash (sym (mem-head x l) ∙ h x)
@@ -208,6 +221,17 @@ sum-zero (x ∷ l) = rw (sum-zero l) refl
 
 pub any-no : {A : Type 0} (p : A → Bool) (x : A) (l : List A) → any p (x ∷ l) ≡ false → (p x ≡ false) × (any p l ≡ false)
 any-no p x l e = (or-l (p x) (any p l) e, or-r (p x) (any p l) e)
+
+pub any-out : (p : ℕ → Bool) (x : ℕ) (l : List ℕ) → any p l ≡ false → mem x l ≡ true → p x ≡ false
+any-out p x [] h e = clash (sym e)
+any-out p x (y ∷ l) h e = split (eqb x y)
+    (λ f. ap p (eqb-true x y f) ∙ any-no p y l h .0)
+    (λ f. any-out p x l (any-no p y l h .1) (cc))
+
+-- two tests that say the same of each number of a list
+pub any-agree : (p q : ℕ → Bool) (l : List ℕ) → ((x : ℕ) → mem x l ≡ true → p x ≡ q x) → any p l ≡ any q l
+any-agree p q [] h = refl
+any-agree p q (x ∷ l) h = cc (h x (mem-head x l), any-agree p q l (λ y e. h y (split (eqb y x) (λ f. cc) (λ f. cc))))
 
 pub all-mem : (p : ℕ → Bool) (l : List ℕ) → ((x : ℕ) → mem x l ≡ true → p x ≡ true) → all p l ≡ true
 all-mem p [] h = refl

@@ -1,5 +1,5 @@
 -- What passed the tests of BadOrder and FormNotTaken is within the ranges of the written form.
-use Prim.Native.Nat.{ℕ, _+_, _≤_, _<_}
+use Prim.Native.Nat.{ℕ, suc, _+_, _≤_, _<_}
 use mathlib.Core.Path.{_≡_, refl, sym, _∙_, ap}
 use mathlib.Core.Bool.{Bool, true, false, not, _&&_, _||_}
 use mathlib.Core.List.{List, [], _∷_, map}
@@ -9,23 +9,25 @@ use lib.ListN.{length}
 use native.Mathlib.Omega.{arith}
 use borrow.Author.Tests.{eqb-true, eqb-false, leb-false, le-leb, lt-leb, lt-ltb}
 use Rattle.rules.specs.Lists.{any, mem, once}
-use Rattle.rules.specs.Number.{Identity, Numbers, used, identified, identityKey}
-use Rattle.rules.specs.Named.{span, range, spelled, numbers, numbersIn, maxListedOwners}
-use Rattle.rules.specs.Number.{wide, wideNumber, keyLimit, wideKey, badIdentity, badList, untaken}
+use Rattle.rules.specs.Number.{Number, Identity, Numbers, used, key, identified, identityKey}
+use Rattle.rules.specs.Named.{span, range, spelled, numbers, numbersIn}
+use Rattle.rules.specs.Number.{wide, wideNumber, keyLimit, wideKey, badIdentity, badList, short, untaken}
 use Rattle.rules.specs.Parameters.{Parameters, over, replaced, tooLarge, badName, badParameters}
 use Rattle.rules.specs.Mark.{Mark, waiting, T1, begun, ticked}
 use Rattle.rules.specs.Placing.{Placing, Lawful}
-use Rattle.rules.specs.Written.{goodOwners, maxOwners, goodMark}
+use Rattle.rules.specs.Owners.{maxOwners}
+use Rattle.rules.specs.Order.{askerAnd}
+use Rattle.rules.specs.Written.{goodOwners, goodMark}
 use Rattle.rules.proofs.Tests.{split, clash, and-in, or-second, or-in, or-l, or-r, not-in}
 use Rattle.rules.proofs.Keys.{key-narrow}
 use Rattle.rules.proofs.Consecutive.{consecutive-mem}
-use Rattle.rules.proofs.ListLaws.{eqb-same, mem-once, once-once, once-same, all-mem, length-once, any-no}
+use Rattle.rules.proofs.ListLaws.{eqb-same, mem-once, once-once, once-same, length-once, all-mem, any-no}
 
 -- ---- numbers ----
 
 module _ (home : ℕ) where
   -- a good identity that is no SNA names a number in range, where the asker's extension is
-  identity-narrow : (i : Identity) → wide home ≡ false → badIdentity i ≡ false → eqb (i .form) 0 ≡ false → wideNumber (identified home i) ≡ false
+  pub identity-narrow : (i : Identity) → wide home ≡ false → badIdentity i ≡ false → short i ≡ false → wideNumber (identified home i) ≡ false
   identity-narrow i w b f = split (eqb (i .form) 2)
       (λ e. rw e (or-in (wide (i .ssi)) (wide (i .extension)) ssi (cc (e, extension))))
       (λ e. rw e (or-in (wide (i .ssi)) (wide home) ssi w))
@@ -42,13 +44,13 @@ module _ (home : ℕ) where
       extension : (eqb (i .form) 2 && wide (i .extension)) ≡ false
       extension = or-r (ltb 0 (i .form) && wide (i .ssi)) _ parts
 
-  keys-narrow : (l : List Identity) → wide home ≡ false → any badIdentity l ≡ false → any (λ (i : Identity). eqb (i .form) 0) l ≡ false
+  keys-narrow : (l : List Identity) → wide home ≡ false → any badIdentity l ≡ false → any short l ≡ false
       → (x : ℕ) → mem x (map (identityKey home) l) ≡ true → wideKey x ≡ false
   keys-narrow [] w b f x e = clash (sym e)
   keys-narrow (i ∷ l) w b f x e = split (eqb x (identityKey home i))
       (λ q. ap wideKey (eqb-true x (identityKey home i) q)
-      ∙ key-narrow (identified home i) (identity-narrow i w (any-no badIdentity i l b .0) (any-no (λ (i : Identity). eqb (i .form) 0) i l f .0)))
-      (λ q. keys-narrow l w (any-no badIdentity i l b .1) (any-no (λ (i : Identity). eqb (i .form) 0) i l f .1) x (cc))
+      ∙ key-narrow (identified home i) (identity-narrow i w (any-no badIdentity i l b .0) (any-no short i l f .0)))
+      (λ q. keys-narrow l w (any-no badIdentity i l b .1) (any-no short i l f .1) x (cc))
 
   -- no key of a range is above its last
   range-narrow : (l : List ℕ) → ((x : ℕ) → mem x l ≡ true → wideKey x ≡ false) → (x : ℕ) → mem x (range l) ≡ true → wideKey x ≡ false
@@ -76,26 +78,37 @@ module _ (home : ℕ) where
 
 -- ---- owners ----
 
--- the asker and as many others as may be listed, entered by a lawful placing
-pub owners-good : (p : Placing) → Lawful p → (asker : ℕ) (l : List ℕ) → wideKey asker ≡ false → length l ≤ maxListedOwners
-    → ((x : ℕ) → mem x l ≡ true → wideKey x ≡ false) → goodOwners p (p .owners .entered (once (asker ∷ l))) ≡ true
-owners-good p laws asker l a h n =
-    and-in (lt-ltb 0 (length os) (omega (arith, counts)))
-    (and-in (le-leb (length os) maxOwners (let k = length-once (asker ∷ l) in omega (arith, counts)))
-    (and-in (laws .owners .stays given)
-    (all-mem (λ a. not (wideKey a)) os (λ x e. not-in (wideKey x) (each x (sym (mem-once x (asker ∷ l)) ∙ sym (laws .owners .holds x given) ∙ e))))))
+-- one at least, and no more than may be, entered by a lawful placing
+pub owners-good : (p : Placing) → Lawful p → (l : List ℕ) (a : ℕ) → mem a l ≡ true → length (p .owners .entered l) ≤ maxOwners
+    → ((x : ℕ) → mem x l ≡ true → wideKey x ≡ false) → goodOwners p (p .owners .entered l) ≡ true
+owners-good p laws l a there few n =
+    let os = p .owners .entered l in
+    and-in (lt-ltb 0 (length os) (mem-some a os (laws .owners .holds a l ∙ there)))
+    (and-in (le-leb (length os) maxOwners few)
+    (and-in (laws .owners .stays l)
+    (all-mem (λ a. not (wideKey a)) os (λ x e. not-in (wideKey x) (n x (sym (laws .owners .holds x l) ∙ e))))))
   where
-    given : List ℕ
-    given = once (asker ∷ l)
+    mem-some : (a : ℕ) (l : List ℕ) → mem a l ≡ true → 0 < length l
+    mem-some a [] e = clash (sym e)
+    mem-some a (x ∷ l) e = omega arith
 
-    os : List ℕ
-    os = p .owners .entered given
+-- the asker and those listed: in range, and at most one more than are listed
+pub asker-narrow : (asker : Number) (n : Option Numbers) → wideNumber asker ≡ false → badList n ≡ false → untaken n ≡ false
+    → (x : ℕ) → mem x (askerAnd asker n) ≡ true → wideKey x ≡ false
+asker-narrow asker n a b u x e = split (eqb x (key asker))
+    (λ f. ap wideKey (eqb-true x (key asker) f) ∙ key-narrow asker a)
+    (λ f. numbers-narrow (asker .extension) n (or-r (wide (asker .ssi)) (wide (asker .extension)) a) b u x
+    (cc (sym e, mem-once x (key asker ∷ numbersIn (asker .extension) n))))
 
-    counts : length os ≡ length given
-    counts = laws .owners .counted given ∙ ap length (once-same given (once-once (asker ∷ l)))
+pub asker-few : (p : Placing) → Lawful p → (asker : Number) (n : Option Numbers)
+    → length (p .owners .entered (askerAnd asker n)) ≤ suc (length (numbersIn (asker .extension) n))
+asker-few p laws asker n =
+    let l = key asker ∷ numbersIn (asker .extension) n in
+    let count = laws .owners .counted (once l) ∙ ap length (once-same (once l) (once-once l)) in
+    omega (arith, count, length-once l)
 
-    each : (x : ℕ) → mem x (asker ∷ l) ≡ true → wideKey x ≡ false
-    each x e = split (eqb x asker) (λ f. ap wideKey (eqb-true x asker f) ∙ a) (λ f. n x (cc))
+pub asker-among : (asker : Number) (n : Option Numbers) → mem (key asker) (askerAnd asker n) ≡ true
+asker-among asker n = mem-once (key asker) (key asker ∷ numbersIn (asker .extension) n) ∙ cc (eqb-same (key asker))
 
 -- ---- parameters ----
 

@@ -2,7 +2,7 @@
 -- Under any lawful placing.
 use Prim.Native.Nat.{ℕ, suc, _+_, _*_, _≤_, _<_}
 use mathlib.Core.Path.{_≡_, refl, sym, _∙_, ap}
-use mathlib.Core.Bool.{Bool, true, false, not, _||_}
+use mathlib.Core.Bool.{Bool, true, false, not}
 use mathlib.Core.List.{List, [], _∷_}
 use mathlib.Core.Option.{none, some}
 use lib.Dec.{ltb}
@@ -12,7 +12,9 @@ use borrow.Author.Tests.{lt-ltb}
 use Rattle.refusal.specs.declared.Refusal.the-variants.{Full}
 use Rattle.rules.specs.Lists.{any, keep, present}
 use Rattle.rules.specs.Entries.{find}
-use Rattle.rules.specs.Order.{Define, define, defineGroups, defineRadios}
+use Rattle.rules.specs.Mark.{begun}
+use Rattle.rules.specs.Owners.{added}
+use Rattle.rules.specs.Order.{Define, define, defineGroups, defineRadios, defineOwners}
 use Rattle.rules.specs.Effect.{effect}
 use Rattle.rules.specs.Refusals.{maxGroups, maxPairs, first, tests}
 use Rattle.rules.specs.Ledger.{Pair, samePair, Ledger, view}
@@ -23,7 +25,7 @@ use Rattle.rules.proofs.LawOrder.{first-none}
 use Rattle.rules.proofs.ListLaws.{Apart}
 use Rattle.rules.proofs.Pairs.{pair-sound, length-product, product-length, product-apart}
 use Rattle.rules.proofs.Effects.{Standing}
-use Rattle.rules.proofs.Steps.{numbers-once, define-pairs-total}
+use Rattle.rules.proofs.Steps.{numbers-once, pairs-total}
 
 -- ---- counting ----
 
@@ -68,23 +70,26 @@ module _ (p : Placing) (laws : Lawful p) (l : Ledger) (s : Standing p l) (o : De
       let gs = defineGroups o in
       let rs = defineRadios o in
       let stands : Pair → Bool = λ k. present (find samePair (l .pairs) k) in
-      let total = define-pairs-total p laws l s o room ∙ ap (λ (n : ℕ). length (l .pairs) + n) (sym (length-product (λ k. not (stands k)) gs rs)) in
-      let apart = product-apart gs rs (numbers-once home (o .groups)) (numbers-once home (o .radios)) in
+      let once = numbers-once home (o .groups) in
+      let once′ = numbers-once home (o .radios) in
+      let count = pairs-total p laws l s gs (added (defineOwners o)) (o .parameters) rs (begun (o .acknowledgement)) once once′ in
+      let total = count ∙ ap (λ (n : ℕ). length (l .pairs) + n) (sym (length-product (λ k. not (stands k)) gs rs)) in
+      let apart = product-apart gs rs once once′ in
       let found = found-few samePair pair-sound (l .pairs) (product gs rs) apart in
       let parts = length-parts stands (product gs rs) in
       let named = product-length gs rs in
       omega arith
 
-  -- a define that passes the five tests before 16 (10, 11, 19, 20, 13), and names more pairs than there is room for, meets 16
-  pub meets-16 : first (take 5 (tests (view l) (tally p l (effect (view l) (define o room))) (define o room))) ≡ none
+  -- a define that passes the six tests before 16 (10, 11, 19, 20, 13, 21), and names more pairs than there is room for, meets 16
+  pub meets-16 : first (take 6 (tests (view l) (tally p l (effect (view l) (define o room))) (define o room))) ≡ none
       → maxPairs < length (defineGroups o) * length (defineRadios o) → refused p l (define o room) ≡ some Full
   meets-16 e many =
       let more : maxPairs < length (after .pairs) = let named = named-stand in omega arith in
       let full = or-second (ltb maxGroups (length (after .groups))) (ltb maxPairs (length (after .pairs))) (lt-ltb maxPairs (length (after .pairs)) more) in
       let all = tests (view l) (tally p l (effect (view l) (define o room))) (define o room) in
-      first-none (take 5 all) (drop 5 all) e ∙ rw full
+      first-none (take 6 all) (drop 6 all) e ∙ rw full
 
   -- 64 groups and 64 radios, as many as refusal 20 lets pass
-  pub sixty-four-by-sixty-four : first (take 5 (tests (view l) (tally p l (effect (view l) (define o room))) (define o room))) ≡ none
+  pub sixty-four-by-sixty-four : first (take 6 (tests (view l) (tally p l (effect (view l) (define o room))) (define o room))) ≡ none
       → length (defineGroups o) ≡ 64 → length (defineRadios o) ≡ 64 → refused p l (define o room) ≡ some Full
   sixty-four-by-sixty-four e a b = meets-16 e (rw (a, b) (omega arith))

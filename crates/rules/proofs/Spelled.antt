@@ -21,7 +21,7 @@ use Rattle.rules.specs.Refusals.{first, accepted, refusal, tests}
 use Rattle.rules.specs.Ledger.{Ledger, view}
 use Rattle.rules.specs.Placing.{Placing}
 use Rattle.rules.specs.Steps.{apply, tally, refused}
-use Rattle.rules.specs.Spelled.{Spells, Said, same, spelled, AsListed, defines, deletes, AsOne, whole, spelledOut}
+use Rattle.rules.specs.Spelled.{Spells, Said, same, spelled, AsListed, defines, deletes, handsOver, AsOne, whole, spelledOut}
 use Rattle.rules.proofs.Tests.{split, or-in}
 use Rattle.rules.proofs.Keys.{number-narrow, key-number}
 use Rattle.rules.proofs.InRange.{listed-numbers}
@@ -60,17 +60,19 @@ same-outgoing w t _ _ (deletes o room groups radios g r) =
     let groups′ = said-agrees _ _ _ g in
     let radios′ = said-agrees _ _ _ r in
     rw (groups′ .keys, radios′ .keys, radios′ .there)
+same-outgoing w t _ _ (handsOver o owners a) = refl
 
 pub same-effect : (w : World) (s s′ : Step) → AsListed s s′ → effect w s ≡ effect w s′
 same-effect w _ _ (defines o room groups owners radios g a r) =
     let groups′ = said-agrees _ _ _ g in
     let owners′ = said-agrees _ _ _ a in
     let radios′ = said-agrees _ _ _ r in
-    rw (groups′ .keys, owners′ .keys, owners′ .there, radios′ .keys)
+    rw (groups′ .keys, owners′ .keys, radios′ .keys)
 same-effect w _ _ (deletes o room groups radios g r) =
     let groups′ = said-agrees _ _ _ g in
     let radios′ = said-agrees _ _ _ r in
     rw (groups′ .keys, radios′ .keys, radios′ .there)
+same-effect w _ _ (handsOver o owners a) = rw (said-agrees _ _ _ a .keys)
 
 pub same-tests : (w : World) (t : Tally) (s s′ : Step) → AsListed s s′ → tests w t s ≡ tests w t s′
 same-tests w t _ _ (defines o room groups owners radios g a r) =
@@ -85,6 +87,7 @@ same-tests w t _ _ (deletes o room groups radios g r) =
     let radios′ = said-agrees _ _ _ r in
     rw (groups′ .keys, groups′ .good, groups′ .taken, groups′ .rises)
     (rw (radios′ .keys, radios′ .good, radios′ .taken, radios′ .rises, radios′ .there))
+same-tests w t _ _ (handsOver o owners a) = let owners′ = said-agrees _ _ _ a in rw (owners′ .keys, owners′ .good, owners′ .taken, owners′ .rises)
 
 pub as-listed : (p : Placing) (l : Ledger) (s s′ : Step) → AsListed s s′ → AsOne p l s s′
 as-listed p l s s′ a = record {

@@ -1,4 +1,4 @@
--- What an accepted define makes of the lists, in plain lists; and the totals after it, counted before it. Under any lawful placing.
+-- What a step that names groups makes of the lists, in plain lists, and the totals after it, counted before it. Under any lawful placing.
 use Prim.Native.Nat.{ℕ, _+_}
 use mathlib.Core.Path.{_≡_, _∙_, ap}
 use mathlib.Core.Bool.{not}
@@ -11,12 +11,13 @@ use Rattle.rules.specs.Lists.{keep, present, sum}
 use Rattle.rules.specs.Entries.{find}
 use Rattle.rules.specs.Number.{Numbers, used, identityKey}
 use Rattle.rules.specs.Named.{spelled, numbers, numbersIn}
-use Rattle.rules.specs.Mark.{Mark, begun}
-use Rattle.rules.specs.Order.{Define, define, defineGroups, defineRadios}
-use Rattle.rules.specs.Effect.{Effect, effect}
-use Rattle.rules.specs.Ledger.{Group, Pair, samePair, Ledger, group, view}
+use Rattle.rules.specs.Parameters.{Parameters}
+use Rattle.rules.specs.Mark.{Mark}
+use Rattle.rules.specs.Owners.{OwnerChange}
+use Rattle.rules.specs.Effect.{onGroups}
+use Rattle.rules.specs.Ledger.{Group, Pair, samePair, Ledger, group}
 use Rattle.rules.specs.Placing.{puts, Placing, Lawful}
-use Rattle.rules.specs.Steps.{given, groupAfter, product, apply}
+use Rattle.rules.specs.Steps.{groupAfter, product, apply}
 use Rattle.rules.proofs.ListLaws.{eqb-same, Once, once-once}
 use Rattle.rules.proofs.Walks.{alter-all}
 use Rattle.rules.proofs.Pairs.{pair-sound, pair-itself, length-product, product-apart}
@@ -29,39 +30,35 @@ unfolding numbers
 numbers-once home none = tt
 numbers-once home (some n) = once-once (spelled (n .code) (map (identityKey home) (used n)))
 
-module _ (p : Placing) (laws : Lawful p) (l : Ledger) (s : Standing p l) (o : Define) (room : ℕ) where
-  abbrev e : Effect
-  e = effect (view l) (define o room)
+module _ (p : Placing) (laws : Lawful p) (l : Ledger) (s : Standing p l)
+    (gs : List ℕ) (owners : OwnerChange) (parameters : Parameters) (rs : List ℕ) (m : Mark) where
+  abbrev left : Ledger
+  left = apply p l (onGroups gs owners parameters rs m)
 
-  abbrev pairs : List Pair
-  pairs = product (defineGroups o) (defineRadios o)
+  abbrev after : ℕ → Group
+  after g = groupAfter p owners parameters (group l g)
 
-  made : apply p l e .groups ≡ puts (p .groups) (l .groups) (defineGroups o) (λ g. groupAfter (e .keeps) (given p e) (group l g))
-  made = ap (λ (k : List (ℕ × Group)). puts (p .groups) k (defineGroups o) (λ g. groupAfter (e .keeps) (given p e) (group l g))) (alter-all (l .groups))
+  made : left .groups ≡ puts (p .groups) (l .groups) gs after
+  made = ap (λ (k : List (ℕ × Group)). puts (p .groups) k gs after) (alter-all (l .groups))
 
-  set : apply p l e .pairs ≡ puts (p .pairs) (l .pairs) pairs (λ k. begun (o .acknowledgement))
-  set = ap (λ (k : List (Pair × Mark)). puts (p .pairs) k pairs (λ k. begun (o .acknowledgement))) (alter-all (l .pairs))
+  set : left .pairs ≡ puts (p .pairs) (l .pairs) (product gs rs) (λ k. m)
+  set = ap (λ (k : List (Pair × Mark)). puts (p .pairs) k (product gs rs) (λ k. m)) (alter-all (l .pairs))
 
   -- each group and each pair is put
-  pub define-lists : apply p l (effect (view l) (define o room)) ≡ record {
-    groups = puts (p .groups) (l .groups) (defineGroups o)
-        (λ g. groupAfter ((effect (view l) (define o room)) .keeps) (given p (effect (view l) (define o room))) (group l g));
-    pairs = puts (p .pairs) (l .pairs) (product (defineGroups o) (defineRadios o)) (λ k. begun (o .acknowledgement));
+  pub step-lists : apply p l (onGroups gs owners parameters rs m) ≡ record {
+    groups = puts (p .groups) (l .groups) gs (λ g. groupAfter p owners parameters (group l g));
+    pairs = puts (p .pairs) (l .pairs) (product gs rs) (λ k. m);
   }
-  define-lists = λ i. record { groups = made i; pairs = set i }
+  step-lists = λ i. record { groups = made i; pairs = set i }
 
   -- one more for each group that is missing, and for each pair
-  pub define-groups-total : length (apply p l (effect (view l) (define o room)) .groups)
-      ≡ length (l .groups) + length (keep (λ g. not (present (group l g))) (defineGroups o))
-  define-groups-total =
-      ap length made
-      ∙ length-puts eqb eqb-true eqb-same (p .groups) (laws .groups) (l .groups) (defineGroups o)
-      (λ g. groupAfter (e .keeps) (given p e) (group l g)) (s .groups) (numbers-once (o .asker .extension) (o .groups))
+  pub groups-total : Once gs → length (apply p l (onGroups gs owners parameters rs m) .groups)
+      ≡ length (l .groups) + length (keep (λ g. not (present (group l g))) gs)
+  groups-total once = ap length made ∙ length-puts eqb eqb-true eqb-same (p .groups) (laws .groups) (l .groups) gs after (s .groups) once
 
-  pub define-pairs-total : length (apply p l (effect (view l) (define o room)) .pairs)
-      ≡ length (l .pairs) + sum (λ g. length (keep (λ r. not (present (find samePair (l .pairs) (g, r)))) (defineRadios o))) (defineGroups o)
-  define-pairs-total =
+  pub pairs-total : Once gs → Once rs → length (apply p l (onGroups gs owners parameters rs m) .pairs)
+      ≡ length (l .pairs) + sum (λ g. length (keep (λ r. not (present (find samePair (l .pairs) (g, r)))) rs)) gs
+  pairs-total once once′ =
       ap length set
-      ∙ length-puts samePair pair-sound pair-itself (p .pairs) (laws .pairs) (l .pairs) pairs (λ k. begun (o .acknowledgement)) (s .pairs)
-      (product-apart (defineGroups o) (defineRadios o) (numbers-once (o .asker .extension) (o .groups)) (numbers-once (o .asker .extension) (o .radios)))
-      ∙ ap (λ (n : ℕ). length (l .pairs) + n) (length-product (λ k. not (present (find samePair (l .pairs) k))) (defineGroups o) (defineRadios o))
+      ∙ length-puts samePair pair-sound pair-itself (p .pairs) (laws .pairs) (l .pairs) (product gs rs) (λ k. m) (s .pairs) (product-apart gs rs once once′)
+      ∙ ap (λ (n : ℕ). length (l .pairs) + n) (length-product (λ k. not (present (find samePair (l .pairs) k))) gs rs)

@@ -21,7 +21,7 @@ use Rattle.rules.proofs.EntryLaws.{mem-keys}
 use Rattle.rules.proofs.Rises.{Over, Climbs, climbs-rising, rises-rising}
 use Rattle.rules.proofs.ByKey.{key-climbs}
 use Rattle.rules.proofs.ByNumber.{by-number, numbers-linear, pairs-linear, pair-cases, above-radio}
-use Rattle.rules.proofs.Written.{written-form, run-written, pairs-good, owners-form}
+use Rattle.rules.proofs.Written.{written-form, run-written, pairs-good, good-owners}
 
 -- the pairs of other groups
 abbrev rest : ℕ → List (Pair × Mark) → List (Pair × Mark)
@@ -150,7 +150,7 @@ in-stretches l h =
       groups = rising;
       unbroken = joined (groupNumbers l) (l .pairs) rising c (good-within l (l .pairs) (pairs-good byNumber l h));
       radios = λ g. radios-rise g (l .pairs) c;
-      owners = λ g x e. rises-rising (x .owners) (owners-form byNumber l f g x e);
+      owners = λ g x e. rises-rising (x .owners) (good-owners byNumber l f g x e .form);
     }
 
 -- so after every operation of any run

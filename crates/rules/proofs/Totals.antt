@@ -1,8 +1,8 @@
 -- Members, owners and totals of the ledger are those counted over the numbers named.
 use Prim.Native.Nat.{ℕ, suc}
 use mathlib.Core.Path.{_≡_, refl, sym, _∙_, ap, fun-ext}
-use mathlib.Core.Bool.{Bool, true, _&&_}
-use mathlib.Core.List.{List, [], _∷_, _++_}
+use mathlib.Core.Bool.{Bool, true}
+use mathlib.Core.List.{List, [], _∷_}
 use mathlib.Core.Option.{Option, none, some}
 use lib.Dec.{eqb}
 use lib.ListN.{length, length-map}
@@ -11,13 +11,13 @@ use Rattle.rules.specs.Lists.{keep, present, turned, mem, rising, sum}
 use Rattle.rules.specs.Entries.{find}
 use Rattle.rules.specs.Mark.{Mark}
 use Rattle.rules.specs.Effect.{Effect, effect}
-use Rattle.rules.specs.World.{World, membersIn, groupTotal, pairTotal}
+use Rattle.rules.specs.World.{World, membersIn, ownersIn, groupTotal, pairTotal}
 use Rattle.rules.specs.Change.{after}
-use Rattle.rules.specs.Ledger.{Group, Pair, samePair, Ledger, group, ownersOf, view, radiosOf, members}
+use Rattle.rules.specs.Ledger.{Group, Pair, samePair, Ledger, group, ownersOf, view, radiosOf, members, owners}
 use Rattle.rules.specs.Refusals.{accepted}
 use Rattle.rules.specs.History.{History, start, _then_, Named, named, namedIn, world, refusalIn}
 use Rattle.rules.proofs.Tests.{split, clash, and-false}
-use Rattle.rules.proofs.ListLaws.{mem-append, mem-keep, mem-rising, eqb-same, rising-keep, rising-rising, same-members, Once}
+use Rattle.rules.proofs.ListLaws.{mem-append, mem-later, mem-keep, mem-rising, eqb-same, rising-keep, rising-rising, same-members, Once}
 use Rattle.rules.proofs.ListLaws.{length-rising, once-rising, sum-one, sum-zero}
 use Rattle.rules.proofs.EntryLaws.{Single, keys, mem-keys, once-keys}
 
@@ -29,15 +29,12 @@ pub record Within (w : World) (n : Named) : Type 0 where
   pub radios : (g r : ℕ) → present (w .mark g r) ≡ true → mem r (n .radios) ≡ true
   pub owners : (g a : ℕ) → w .owner g a ≡ true → mem a (n .owners) ≡ true
 
-more : (x : ℕ) (a b : List ℕ) → mem x b ≡ true → mem x (a ++ b) ≡ true
-more x a b h = split (mem x a) (λ e. cc (mem-append x a b)) (λ e. cc (mem-append x a b))
-
 pub within-more : (w : World) (e : Effect) (n : Named) → Within w n → Within w (named e n)
 within-more w e n h = record {
-  stands = λ g k. more g (e .makes) (n .groups) (h .stands g k);
-  groups = λ g r k. more g (e .makes) (n .groups) (h .groups g r k);
-  radios = λ g r k. more r (e .assigns) (n .radios) (h .radios g r k);
-  owners = λ g a k. more a (e .owners) (n .owners) (h .owners g a k);
+  stands = λ g k. mem-later g (e .makes) (n .groups) (h .stands g k);
+  groups = λ g r k. mem-later g (e .makes) (n .groups) (h .groups g r k);
+  radios = λ g r k. mem-later r (e .assigns) (n .radios) (h .radios g r k);
+  owners = λ g a k. mem-later a (e .owners .come) (n .owners) (h .owners g a k);
 }
 
 turned-was : (f : Mark → Option Mark) (m : Option Mark) → present (turned f m) ≡ true → present m ≡ true
@@ -57,10 +54,10 @@ within-after w e n h = record {
   radios = λ g r k. split (mem r (e .assigns))
       (λ f. cc (mem-append r (e .assigns) (n .radios)))
       (λ f. cc (mem-append r (e .assigns) (n .radios), h .radios g r (turned-was (e .turns g r) (w .mark g r) (cc (and-false (mem g (e .makes)))))));
-  owners = λ g a k. split (mem a (e .owners))
-      (λ f. cc (mem-append a (e .owners) (n .owners)))
-      (λ f. more a (e .owners) (n .owners) (h .owners g a (split (mem g (e .makes))
-      (λ b. split (w .stands g && e .keeps) (λ c. cc) (λ c. clash (cc)))
+  owners = λ g a k. split (mem a (e .owners .come))
+      (λ f. cc (mem-append a (e .owners .come) (n .owners)))
+      (λ f. mem-later a (e .owners .come) (n .owners) (h .owners g a (split (mem g (e .makes))
+      (λ b. split (e .owners .stay) (λ c. split (w .owner g a) (λ d. d) (λ d. clash (cc))) (λ c. clash (cc)))
       (λ b. split (e .removes g) (λ c. clash (cc)) (λ c. cc)))));
 }
 
@@ -104,8 +101,8 @@ pub groups-total : (l : Ledger) (n : Named) → Within (view l) n → Single eqb
 groups-total l n h o =
     sym (length-map (l .groups) (λ (e : ℕ × Group). e .0)) ∙ sym (length-rising (keys (l .groups)) (once-keys (l .groups) o)) ∙ ap length (standing-agree l n h)
 
-pub owners-agree : (l : Ledger) (n : Named) → Within (view l) n → (g : ℕ) → rising (ownersOf (group l g)) ≡ keep (view l .owner g) (rising (n .owners))
-owners-agree l n h g = same-members (rising (ownersOf (group l g))) (keep (view l .owner g) (rising (n .owners)))
+pub owners-agree : (l : Ledger) (n : Named) → Within (view l) n → (g : ℕ) → owners l g ≡ ownersIn (view l) (n .owners) g
+owners-agree l n h g = same-members (owners l g) (keep (view l .owner g) (rising (n .owners)))
     (rising-rising (ownersOf (group l g)))
     (rising-keep (view l .owner g) (rising (n .owners)) (rising-rising (n .owners)))
     (λ a. mem-rising a (ownersOf (group l g)) ∙ narrow a (view l .owner g) (n .owners) (h .owners g a))

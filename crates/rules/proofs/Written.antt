@@ -1,36 +1,43 @@
 -- The written form is kept by every step on any ledger that has it, and `empty` has it: no run from empty meets refusal 18.
-use Prim.Native.Nat.{ℕ, _≤_}
+use Prim.Native.Nat.{ℕ, _≤_, _<_}
 use mathlib.Core.Path.{_≡_, refl, sym, _∙_, ap}
 use mathlib.Core.Bool.{Bool, true, false, cond, not, _&&_, _||_}
+use mathlib.Core.List.{List, [], _∷_, _++_}
 use mathlib.Core.Option.{Option, none, some}
 use lib.Dec.{eqb, ltb, leb}
 use lib.ListN.{length}
 use native.Mathlib.Omega.{arith}
-use borrow.Author.Tests.{eqb-true, ltb-false, leb-true, le-leb, not-true}
+use borrow.Author.Tests.{eqb-true, ltb-true, ltb-false, leb-true, le-leb, not-true}
 use Rattle.refusal.specs.declared.Refusal.{Refusal}
-use Rattle.rules.specs.Lists.{any, all, present, turned, mem}
+use Rattle.rules.specs.Lists.{any, all, present, turned, mem, rising}
 use Rattle.rules.specs.Entries.{find}
-use Rattle.rules.specs.Number.{key, wide, wideNumber, wideKey, badList, untaken}
-use Rattle.rules.specs.Named.{badRange, maxNumbers, maxListedOwners, tooMany, numbersIn}
+use Rattle.rules.specs.Number.{key, identified, wide, wideNumber, wideKey, badIdentity, badList, short, untaken}
+use Rattle.rules.specs.Named.{maxListedOwners, numbersIn}
 use Rattle.rules.specs.Parameters.{noParameters, replaced, badParameters}
-use Rattle.rules.specs.Mark.{Mark, fresh, confirmed, ticked}
-use Rattle.rules.specs.Order.{Define, Delete, Answer, Step, define, delete, answer, tick, defineGroups, deleteGroups, leaves}
+use Rattle.rules.specs.Mark.{Mark, noneWanted, confirmed, fresh, ticked}
+use Rattle.rules.specs.Owners.{added, set, maxOwners}
+use Rattle.rules.specs.Order.{Define, Delete, Answer, Handover, Step, define, delete, answer, handover, tick}
+use Rattle.rules.specs.Order.{defineGroups, defineOwners, deleteGroups, leaves, handoverGroup, handoverOwners}
 use Rattle.rules.specs.Effect.{Effect, only, effect}
 use Rattle.rules.specs.Change.{after}
-use Rattle.rules.specs.Refusals.{accepted, maxGroups, maxPairs, refuses, badValues}
-use Rattle.rules.specs.Ledger.{Group, Pair, samePair, Ledger, empty, group, parametersOf, view}
+use Rattle.rules.specs.Refusals.{accepted, maxGroups, maxPairs, refuses, badValues, tests}
+use Rattle.rules.specs.Ledger.{Group, Pair, samePair, Ledger, empty, ownersOf, group, parametersOf, view, owners}
 use Rattle.rules.specs.Placing.{Placing, Lawful}
-use Rattle.rules.specs.Steps.{ownersAfter, given, groupAfter, apply, refused, step}
-use Rattle.rules.specs.Written.{maxOwners, goodOwners, goodGroup, goodMark, goodPair, written}
+use Rattle.rules.specs.Steps.{ownersAfter, groupMade, apply, tally, refused, step}
+use Rattle.rules.specs.Written.{goodOwners, goodGroup, goodMark, goodPair, written}
 use Rattle.rules.specs.History.{History, start, _then_}
 use Rattle.rules.specs.Run.{run}
 use Rattle.rules.proofs.Tests.{split, clash, and-in, and-l, and-r, or-l, or-r, not-in}
-use Rattle.rules.proofs.ListLaws.{eqb-same}
+use Rattle.rules.proofs.LawOrder.{tests-pass}
+use Rattle.rules.proofs.ListLaws.{eqb-same, mem-later, mem-both, any-out, all-in, length-rising, once-unique}
 use Rattle.rules.proofs.EntryLaws.{found-all, all-found, length-alter}
 use Rattle.rules.proofs.Pairs.{pair-sound, pair-itself}
 use Rattle.rules.proofs.Effects.{Standing, groups-single, pairs-single, standing-apply, group-after, mark-after}
+use Rattle.rules.proofs.Walks.{alter-all}
+use Rattle.rules.proofs.Steps.{groups-total}
 use Rattle.rules.proofs.Keys.{key-narrow}
-use Rattle.rules.proofs.Ranges.{numbers-narrow, owners-good, replaced-good, begun-good, ticked-good}
+use Rattle.rules.proofs.Ranges.{identity-narrow, numbers-narrow, owners-good, asker-narrow, asker-few, asker-among}
+use Rattle.rules.proofs.Ranges.{replaced-good, begun-good, ticked-good}
 
 -- ---- the form, by what is found ----
 
@@ -89,7 +96,7 @@ module _ (p : Placing) (l : Ledger) where
       stands g r a (some m) q e =
           and-r (goodMark m) (present (group l g)) (and-r (not (wideKey r)) (goodMark m && present (group l g)) (pair g r m a q))
 
--- every pair is good, and every group's owners stand in the placing's form
+-- every pair is good
 pub pairs-good : (p : Placing) (l : Ledger) → written p l ≡ true → all (goodPair l) (l .pairs) ≡ true
 pairs-good p l h =
     let good = all (goodGroup p) (l .groups) && all (goodPair l) (l .pairs) in
@@ -99,14 +106,38 @@ pairs-good p l h =
     let h₂ = and-r (leb (length (l .pairs)) maxPairs) (groupsStand && (pairsStand && good)) h₁ in
     and-r (all (goodGroup p) (l .groups)) (all (goodPair l) (l .pairs)) (and-r pairsStand good (and-r groupsStand (pairsStand && good) h₂))
 
-pub owners-form : (p : Placing) (l : Ledger) → Form p l → (g : ℕ) (x : Group) → group l g ≡ some x → p .owners .form (x .owners) ≡ true
-owners-form p l f g x e =
+-- what is good of a group's owners
+pub record GoodOwners (p : Placing) (os : List ℕ) : Type 0 where
+  pub some : 0 < length os
+  pub few : length os ≤ maxOwners
+  pub form : p .owners .form os ≡ true
+  pub narrow : (a : ℕ) → mem a os ≡ true → wideKey a ≡ false
+
+pub good-owners : (p : Placing) (l : Ledger) → Form p l → (g : ℕ) (x : Group) → group l g ≡ some x → GoodOwners p (x .owners)
+good-owners p l f g x e =
     let os = x .owners in
-    let narrow = all (λ a. not (wideKey a)) os in
+    let there = ltb 0 (length os) in
+    let fewOwners = leb (length os) maxOwners in
+    let stands = p .owners .form os in
+    let narrowAll = all (λ a. not (wideKey a)) os in
     let bad = badParameters (x .parameters) in
-    let k = and-l (goodOwners p os) (not bad) (and-r (not (wideKey g)) (goodOwners p os && not bad) (f .groups g x e)) in
-    let m = and-r (ltb 0 (length os)) (leb (length os) maxOwners && (p .owners .form os && narrow)) k in
-    and-l (p .owners .form os) narrow (and-r (leb (length os) maxOwners) (p .owners .form os && narrow) m)
+    let h₁ = and-l (goodOwners p os) (not bad) (and-r (not (wideKey g)) (goodOwners p os && not bad) (f .groups g x e)) in
+    let h₂ = and-r there (fewOwners && (stands && narrowAll)) h₁ in
+    let h₃ = and-r fewOwners (stands && narrowAll) h₂ in
+    record {
+      some = ltb-true 0 (length os) (and-l there (fewOwners && (stands && narrowAll)) h₁);
+      few = leb-true (length os) maxOwners (and-l fewOwners (stands && narrowAll) h₂);
+      form = and-l stands narrowAll h₃;
+      narrow = λ a m. not-true (wideKey a) (all-in (λ a. not (wideKey a)) a os (and-r stands narrowAll h₃) m);
+    }
+
+-- whoever owns a group that stands is in range
+pub standing-narrow : (p : Placing) (l : Ledger) → Form p l → (g a : ℕ) → mem a (ownersOf (group l g)) ≡ true → wideKey a ≡ false
+standing-narrow p l f g a = go (group l g) refl
+  where
+    go : (x : Option Group) → group l g ≡ x → mem a (ownersOf x) ≡ true → wideKey a ≡ false
+    go none q e = clash (sym e)
+    go (some x) q e = good-owners p l f g x q .narrow a e
 
 -- ---- what an effect needs so that the form stays ----
 
@@ -131,7 +162,7 @@ good-option p l f g = go (group l g) (f .groups g)
         )
 
 record Fit (p : Placing) (l : Ledger) (e : Effect) : Type 0 where
-  makes : (g : ℕ) → mem g (e .makes) ≡ true → (wideKey g ≡ false) × (goodOwners p (p .owners .entered (e .owners)) ≡ true)
+  makes : (g : ℕ) → mem g (e .makes) ≡ true → (wideKey g ≡ false) × (goodOwners p (ownersAfter p (e .owners) (group l g)) ≡ true)
   parameters : badParameters (e .parameters) ≡ false
   assigns : (r : ℕ) → mem r (e .assigns) ≡ true → wideKey r ≡ false
   begins : goodMark (e .begins) ≡ true
@@ -141,7 +172,7 @@ record Fit (p : Placing) (l : Ledger) (e : Effect) : Type 0 where
   few-pairs : length (apply p l e .pairs) ≤ maxPairs
 
 module _ (p : Placing) (laws : Lawful p) (l : Ledger) (f : Form p l) (e : Effect) (fit : Fit p l e) where
-  group-then : (g : ℕ) → group (apply p l e) g ≡ cond (mem g (e .makes)) (some (groupAfter (e .keeps) (given p e) (group l g)))
+  group-then : (g : ℕ) → group (apply p l e) g ≡ cond (mem g (e .makes)) (some (groupMade p l e g))
       (cond (e .removes g) none (group l g))
   group-then = group-after p laws l (f .standing) e
 
@@ -164,17 +195,13 @@ module _ (p : Placing) (laws : Lawful p) (l : Ledger) (f : Form p l) (e : Effect
         (λ a. stay g r a (find samePair (l .pairs) (g, r)) refl (cc (mark-then g r)));
   }
     where
-      made : (g : ℕ) (x : Group) → mem g (e .makes) ≡ true → some (groupAfter (e .keeps) (given p e) (group l g)) ≡ some x → goodGroup p (g, x) ≡ true
+      made : (g : ℕ) (x : Group) → mem g (e .makes) ≡ true → some (groupMade p l e g) ≡ some x → goodGroup p (g, x) ≡ true
       made g x a k =
-          let q : groupAfter (e .keeps) (given p e) (group l g) ≡ x = cc in
+          let q : groupMade p l e g ≡ x = cc in
           let good = good-option p l f g in
           sym (ap (λ (y : Group). goodGroup p (g, y)) q) ∙ and-in (not-in (wideKey g) (fit .makes g a .0)) (and-in
-          (owners (group l g) good)
+          (fit .makes g a .1)
           (not-in (badParameters (replaced (e .parameters) (parametersOf (group l g)))) (replaced-fit p e (group l g) (fit .parameters) good)))
-        where
-          owners : (x : Option Group) → GoodOption p x → goodOwners p (ownersAfter (e .keeps) (given p e) x) ≡ true
-          owners none k = fit .makes g a .1
-          owners (some x) k = split (e .keeps) (λ b. rw b (k .0)) (λ b. rw b (fit .makes g a .1))
 
       set : (m : Mark) → some (e .begins) ≡ some m → goodMark m ≡ true
       set m k = let q : e .begins ≡ m = cc in sym (ap goodMark q) ∙ fit .begins
@@ -193,36 +220,39 @@ module _ (p : Placing) (laws : Lawful p) (l : Ledger) (f : Form p l) (e : Effect
 
 -- ---- the steps ----
 
--- a refusal test that was passed
-pub passed : (r : Refusal) (b : Bool) (k : Option Refusal) → cond b (some r) k ≡ none → (b ≡ false) × (k ≡ none)
-passed r true k e = clash (cc)
-passed r false k e = (refl, e)
-
 none-refused : (r : Option Refusal) → accepted r ≡ true → r ≡ none
 none-refused none e = refl
 none-refused (some r) e = clash (sym e)
 
 module _ (p : Placing) (laws : Lawful p) where
-  define-fit : (l : Ledger) (o : Define) (room : ℕ) → refused p l (define o room) ≡ none → Fit p l (effect (view l) (define o room))
-  define-fit l o room e =
+  -- a define that passes 21 leaves no named group with more owners than may be
+  pub few-owners : (l : Ledger) → Form p l → (o : Define) (room : ℕ)
+      → any (λ g. ltb maxOwners (tally p l (effect (view l) (define o room)) .owners g)) (defineGroups o) ≡ false
+      → (g : ℕ) → mem g (defineGroups o) ≡ true → length (ownersAfter p (added (defineOwners o)) (group l g)) ≤ maxOwners
+  few-owners l f o room h g m =
+      let e = effect (view l) (define o room) in
+      let os = ownersAfter p (added (defineOwners o)) (group l g) in
+      let made : group (apply p l e) g ≡ some (groupMade p l e g) = group-after p laws l (f .standing) e g ∙ rw m in
+      let once = once-unique os (laws .owners .single os (laws .owners .stays _)) in
+      let count = ap (λ (x : Option Group). length (rising (ownersOf x))) made ∙ length-rising os once in
+      let few = ltb-false maxOwners (length (owners (apply p l e) g)) (any-out (λ g. ltb maxOwners (length (owners (apply p l e) g))) g (defineGroups o) h m) in
+      omega (arith, count)
+
+  define-fit : (l : Ledger) → Form p l → (o : Define) (room : ℕ) → refused p l (define o room) ≡ none → Fit p l (effect (view l) (define o room))
+  define-fit l f o room e =
       let l′ = apply p l (effect (view l) (define o room)) in
-      let bad = passed _ (wideNumber (o .asker) || (refuses (o .judged) || badValues o)) _ e in
-      let form = passed _ (o .call || (untaken (o .groups) || (untaken (o .owners) || untaken (o .radios)))) _ (bad .1) in
+      let t = tests (view l) (tally p l (effect (view l) (define o room))) (define o room) in
+      let bad = tests-pass t e 0 in
       let x = o .asker .extension in
-      let range = passed _ (badRange x (o .groups) || (badRange x (o .owners) || badRange x (o .radios))) _ (form .1) in
-      let manyOwners = tooMany maxListedOwners x (o .owners) in
-      let many = passed _ (tooMany maxNumbers x (o .groups) || (manyOwners || tooMany maxNumbers x (o .radios))) _ (range .1) in
-      let fewOwners = or-l manyOwners (tooMany maxNumbers x (o .radios)) (or-r (tooMany maxNumbers x (o .groups)) _ (many .0)) in
-      let owned = passed _ (any (λ g. view l .stands g && not (view l .owner g (key (o .asker)))) (defineGroups o)) _ (many .1) in
       let manyGroups = ltb maxGroups (length (l′ .groups)) in
       let manyPairs = ltb maxPairs (length (l′ .pairs)) in
-      let full = passed _ (manyGroups || manyPairs) _ (owned .1) in
-      let asker = or-l (wideNumber (o .asker)) (refuses (o .judged) || badValues o) (bad .0) in
+      let full = tests-pass t e 6 in
+      let asker = or-l (wideNumber (o .asker)) (refuses (o .judged) || badValues o) bad in
       let home = or-r (wide (o .asker .ssi)) (wide (o .asker .extension)) asker in
-      let b₁ = or-r (refuses (o .judged)) (badValues o) (or-r (wideNumber (o .asker)) (refuses (o .judged) || badValues o) (bad .0)) in
+      let b₁ = or-r (refuses (o .judged)) (badValues o) (or-r (wideNumber (o .asker)) (refuses (o .judged) || badValues o) bad) in
       let b₂ = or-r (badList (o .groups)) (badList (o .owners) || (badList (o .radios) || badParameters (o .parameters))) b₁ in
       let b₃ = or-r (badList (o .owners)) (badList (o .radios) || badParameters (o .parameters)) b₂ in
-      let u₁ = or-r (o .call) (untaken (o .groups) || (untaken (o .owners) || untaken (o .radios))) (form .0) in
+      let u₁ = or-r (o .call) (untaken (o .groups) || (untaken (o .owners) || untaken (o .radios))) (tests-pass t e 1) in
       let u₂ = or-r (untaken (o .groups)) (untaken (o .owners) || untaken (o .radios)) u₁ in
       let badOwners = or-l (badList (o .owners)) (badList (o .radios) || badParameters (o .parameters)) b₂ in
       record {
@@ -230,9 +260,11 @@ module _ (p : Placing) (laws : Lawful p) where
           numbers-narrow x (o .groups) home
               (or-l (badList (o .groups)) (badList (o .owners) || (badList (o .radios) || badParameters (o .parameters))) b₁)
               (or-l (untaken (o .groups)) (untaken (o .owners) || untaken (o .radios)) u₁) g k,
-          owners-good p laws (key (o .asker)) (numbersIn x (o .owners)) (key-narrow (o .asker) asker)
-              (ltb-false maxListedOwners (length (numbersIn x (o .owners))) fewOwners)
-              (numbers-narrow x (o .owners) home badOwners (or-l (untaken (o .owners)) (untaken (o .radios)) u₂)),
+          owners-good p laws (ownersOf (group l g) ++ defineOwners o) (key (o .asker))
+              (mem-later (key (o .asker)) (ownersOf (group l g)) (defineOwners o) (asker-among (o .asker) (o .owners)))
+              (few-owners l f o room (tests-pass t e 5) g k)
+              (mem-both (λ a. wideKey a ≡ false) (ownersOf (group l g)) (defineOwners o) (standing-narrow p l f g)
+              (asker-narrow (o .asker) (o .owners) asker badOwners (or-l (untaken (o .owners)) (untaken (o .radios)) u₂))),
         );
         parameters = or-r (badList (o .radios)) (badParameters (o .parameters)) b₃;
         assigns = numbers-narrow x (o .radios) home (or-l (badList (o .radios)) (badParameters (o .parameters)) b₃)
@@ -240,8 +272,44 @@ module _ (p : Placing) (laws : Lawful p) where
         begins = begun-good (o .acknowledgement);
         turns = λ g r m m′ h k. let q : m ≡ m′ = cc in sym (ap goodMark q) ∙ h;
         removes = λ g r m k. clash (sym k);
-        few-groups = ltb-false maxGroups (length (l′ .groups)) (or-l manyGroups manyPairs (full .0));
-        few-pairs = ltb-false maxPairs (length (l′ .pairs)) (or-r manyGroups manyPairs (full .0));
+        few-groups = ltb-false maxGroups (length (l′ .groups)) (or-l manyGroups manyPairs full);
+        few-pairs = ltb-false maxPairs (length (l′ .pairs)) (or-r manyGroups manyPairs full);
+      }
+
+  -- a handover makes no group
+  pub handover-count : (l : Ledger) → Form p l → (o : Handover) → refused p l (handover o) ≡ none
+      → length (apply p l (effect (view l) (handover o)) .groups) ≡ length (l .groups)
+  handover-count l f o e =
+      let t = tests (view l) (tally p l (effect (view l) (handover o))) (handover o) in
+      groups-total p laws l (f .standing) (handoverGroup o ∷ []) (set (handoverOwners o)) noParameters [] (fresh noneWanted) (refl, tt)
+      ∙ rw (tests-pass t e 4) (omega arith)
+
+  handover-fit : (l : Ledger) → Form p l → (o : Handover) → refused p l (handover o) ≡ none → Fit p l (effect (view l) (handover o))
+  handover-fit l f o e =
+      let x = o .asker .extension in
+      let list = some (o .owners) in
+      let g₀ = handoverGroup o in
+      let t = tests (view l) (tally p l (effect (view l) (handover o))) (handover o) in
+      let bad = tests-pass t e 0 in
+      let form = tests-pass t e 1 in
+      let asker = or-l (wideNumber (o .asker)) (badIdentity (o .group) || badList list) bad in
+      let home = or-r (wide (o .asker .ssi)) (wide (o .asker .extension)) asker in
+      let b = or-r (wideNumber (o .asker)) (badIdentity (o .group) || badList list) bad in
+      let narrow = identity-narrow x (o .group) home (or-l (badIdentity (o .group)) (badList list) b) (or-l (short (o .group)) (untaken list) form) in
+      record {
+        makes = λ g k. (
+          ap wideKey (eqb-true g g₀ (split (eqb g g₀) (λ q. q) (λ q. clash (cc)))) ∙ key-narrow (identified x (o .group)) narrow,
+          owners-good p laws (handoverOwners o) (key (o .asker)) (asker-among (o .asker) list)
+              (omega (arith, asker-few p laws (o .asker) list, ltb-false maxListedOwners (length (numbersIn x list)) (tests-pass t e 3)))
+              (asker-narrow (o .asker) list asker (or-r (badIdentity (o .group)) (badList list) b) (or-r (short (o .group)) (untaken list) form)),
+        );
+        parameters = refl;
+        assigns = λ r k. clash (sym k);
+        begins = refl;
+        turns = λ g r m m′ h k. let q : m ≡ m′ = cc in sym (ap goodMark q) ∙ h;
+        removes = λ g r m k. clash (sym k);
+        few-groups = omega (arith, f .few-groups, handover-count l f o e);
+        few-pairs = rw (alter-all (l .pairs)) (f .few-pairs);
       }
 
   -- a step that makes no group: groups go and pairs turn
@@ -282,9 +350,10 @@ module _ (p : Placing) (laws : Lawful p) where
       (λ g r m k. clash (sym k))
 
   step-fit : (l : Ledger) → Form p l → (s : Step) → refused p l s ≡ none → Fit p l (effect (view l) s)
-  step-fit l f (define o room) e = define-fit l o room e
+  step-fit l f (define o room) e = define-fit l f o room e
   step-fit l f (delete o room) e = delete-fit l f o room
   step-fit l f (answer a) e = answer-fit l f a
+  step-fit l f (handover o) e = handover-fit l f o e
   step-fit l f tick e = tick-fit l f
 
 module _ (p : Placing) (laws : Lawful p) where

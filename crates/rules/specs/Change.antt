@@ -3,6 +3,7 @@ use mathlib.Core.Bool.{cond, not, _&&_, _||_}
 use mathlib.Core.Option.{some}
 use Rattle.rules.specs.Lists.{turned, mem}
 use Rattle.rules.specs.Parameters.{noParameters, replaced}
+use Rattle.rules.specs.Owners.{ownsFrom}
 use Rattle.rules.specs.World.{World}
 use Rattle.rules.specs.Effect.{Effect}
 
@@ -10,9 +11,7 @@ use Rattle.rules.specs.Effect.{Effect}
 abbrev pub after : World → Effect → World
 after w e = record {
   stands = λ g. mem g (e .makes) || (not (e .removes g) && w .stands g);
-  owner = λ g a. cond (mem g (e .makes))
-      (cond (w .stands g && e .keeps) (w .owner g a) (mem a (e .owners)))
-      (not (e .removes g) && w .owner g a);
+  owner = λ g a. cond (mem g (e .makes)) (ownsFrom (e .owners) (w .owner g a) a) (not (e .removes g) && w .owner g a);
   parameters = λ g. cond (mem g (e .makes))
       (replaced (e .parameters) (w .parameters g))
       (cond (e .removes g) noParameters (w .parameters g));

@@ -1,8 +1,9 @@
--- What a history means, by document 01's rules alone: what stands after it, what is refused and what is replied. No ledger is kept.
+-- What a history means, by the rules of documents 01 and 02 alone: what stands after it, what is refused and what is replied. No ledger is kept.
 use Prim.Native.Nat.{ℕ}
 use mathlib.Core.Bool.{Bool, cond}
 use mathlib.Core.List.{List, [], _++_}
 use mathlib.Core.Option.{Option}
+use lib.ListN.{length}
 use Rattle.refusal.specs.declared.Refusal.{Refusal}
 use Rattle.rules.specs.Number.{Number, key}
 use Rattle.rules.specs.Mark.{Mark}
@@ -28,11 +29,12 @@ pub record Named : Type 0 where
   pub owners : List ℕ
 
 abbrev pub named : Effect → Named → Named
-named e n = record { groups = e .makes ++ n .groups; radios = e .assigns ++ n .radios; owners = e .owners ++ n .owners }
+named e n = record { groups = e .makes ++ n .groups; radios = e .assigns ++ n .radios; owners = e .owners .come ++ n .owners }
 
 abbrev pub tallyIn : World → Named → Effect → Tally
 tallyIn w n e = record {
   members = membersIn w (n .radios);
+  owners = λ g. length (ownersIn (after w e) (n .owners) g);
   groups = groupTotal (after w e) (n .groups);
   pairs = pairTotal (after w e) (n .groups) (n .radios);
 }

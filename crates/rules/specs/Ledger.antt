@@ -59,10 +59,14 @@ radiosOf g (e ∷ l) = cond (eqb g (e .0 .0)) (e .0 .1 ∷ radiosOf g l) (radios
 abbrev pub members : Ledger → ℕ → List ℕ
 members l g = rising (radiosOf g (l .pairs))
 
+-- a group's owners, each once, rising
+abbrev pub owners : Ledger → ℕ → List ℕ
+owners l g = rising (ownersOf (group l g))
+
 -- ---- the orders that change nothing, for any arguments ----
 
 abbrev pub list : Ledger → Number → Number → ℕ → Listing
 list l asker g room = listing (view l) asker g (members l (key g)) room
 
 abbrev pub show : Ledger → Number → Number → Showing
-show l asker g = showing (view l) asker g (rising (ownersOf (group l (key g))))
+show l asker g = showing (view l) asker g (owners l (key g))

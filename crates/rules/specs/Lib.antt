@@ -4,6 +4,7 @@ pub mod Number
 pub mod Named
 pub mod Parameters
 pub mod Mark
+pub mod Owners
 pub mod Order
 pub mod Recorded
 pub mod World
@@ -26,3 +27,4 @@ pub mod Alike
 pub mod Stretches
 pub mod Spelled
 pub mod Visitor
+pub mod Ownership

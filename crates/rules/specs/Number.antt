@@ -98,6 +98,9 @@ badList none = false
 badList (some n) = ltb 10 (n .code) || any badIdentity (used n)
 
 -- a form not taken: an SNA
+abbrev pub short : Identity → Bool
+short i = eqb (i .form) 0
+
 abbrev pub untaken : Option Numbers → Bool
 untaken none = false
-untaken (some n) = any (λ (i : Identity). eqb (i .form) 0) (used n)
+untaken (some n) = any short (used n)

@@ -1,11 +1,12 @@
--- The orders of document 01: define, delete, answer and tick. They hold numbers as handed over, "asker and answering radio .. with theirs".
+-- The orders of document 01, define, delete, answer and tick, and the handover of document 02 (P6). They hold numbers as handed over,
+-- "asker and answering radio .. with theirs".
 use Prim.Native.Nat.{ℕ}
 use mathlib.Core.Bool.{Bool, true, cond, _&&_, _||_}
 use mathlib.Core.List.{List, _∷_}
-use mathlib.Core.Option.{Option}
+use mathlib.Core.Option.{Option, some}
 use Rattle.layout.specs.declared.Judged.{Judged}
 use Rattle.rules.specs.Lists.{present, mem, once}
-use Rattle.rules.specs.Number.{Number, Numbers, key}
+use Rattle.rules.specs.Number.{Number, Identity, Numbers, key, identityKey}
 use Rattle.rules.specs.Named.{numbers, numbersIn}
 use Rattle.rules.specs.Parameters.{Parameters}
 
@@ -34,11 +35,18 @@ pub record Answer : Type 0 where
   pub group : Number
   pub result : ℕ
 
+-- "(asker, one group, list)"
+pub record Handover : Type 0 where
+  pub asker : Number
+  pub group : Identity
+  pub owners : Numbers
+
 -- an order that may change the ledger; the number is the room lent, in outgoing orders
 pub data Step : Type 0 where
   define : Define → ℕ → Step
   delete : Delete → ℕ → Step
   answer : Answer → Step
+  handover : Handover → Step
   tick : Step
 
 -- ---- the keys that an order names ----
@@ -50,9 +58,18 @@ defineGroups o = numbersIn (o .asker .extension) (o .groups)
 abbrev pub defineRadios : Define → List ℕ
 defineRadios o = numbersIn (o .asker .extension) (o .radios)
 
--- "asker plus those listed"
+-- "the asker and those listed"
+abbrev pub askerAnd : Number → Option Numbers → List ℕ
+askerAnd asker owners = once (key asker ∷ numbersIn (asker .extension) owners)
+
 abbrev pub defineOwners : Define → List ℕ
-defineOwners o = once (key (o .asker) ∷ numbersIn (o .asker .extension) (o .owners))
+defineOwners o = askerAnd (o .asker) (o .owners)
+
+abbrev pub handoverOwners : Handover → List ℕ
+handoverOwners o = askerAnd (o .asker) (some (o .owners))
+
+abbrev pub handoverGroup : Handover → ℕ
+handoverGroup o = identityKey (o .asker .extension) (o .group)
 
 abbrev pub deleteGroups : Delete → List ℕ
 deleteGroups o = numbers (o .asker .extension) (o .groups)

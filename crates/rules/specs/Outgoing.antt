@@ -3,7 +3,7 @@ use Prim.Native.Nat.{ℕ}
 use mathlib.Core.Bool.{cond}
 use mathlib.Core.List.{List, [], map}
 use Rattle.rules.specs.Lists.{keep, present, join}
-use Rattle.rules.specs.Order.{Delete, Step, define, delete, answer, tick, defineGroups, defineRadios, deleteGroups, deleteRadios}
+use Rattle.rules.specs.Order.{Delete, Step, define, delete, answer, handover, tick, defineGroups, defineRadios, deleteGroups, deleteRadios}
 use Rattle.rules.specs.World.{World, Tally}
 
 -- "An outgoing order is its kind, radio and group"
@@ -34,4 +34,5 @@ abbrev pub outgoing : World → Tally → Step → List Outgoing
 outgoing w t (define o room) = join (λ g. orders assign g (defineRadios o)) (defineGroups o)
 outgoing w t (delete o room) = join (λ g. orders deassign g (deassigned w t o g)) (deleteGroups o)
 outgoing w t (answer a) = []
+outgoing w t (handover o) = []
 outgoing w t tick = []

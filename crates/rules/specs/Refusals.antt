@@ -9,21 +9,23 @@ use lib.ListN.{length}
 use Rattle.refusal.specs.Number.{numberOf}
 use Rattle.refusal.specs.declared.Refusal.{Refusal}
 use Rattle.refusal.specs.declared.Refusal.the-variants.{BadOrder, FormNotTaken, BadRange, TooManyNumbers, NoSuchGroup, NotOwner}
-use Rattle.refusal.specs.declared.Refusal.the-variants.{NotOpen, NothingToDo, Full, NoRoom}
+use Rattle.refusal.specs.declared.Refusal.the-variants.{TooManyOwners, NotOpen, NothingToDo, Full, NoRoom}
 use Rattle.layout.specs.declared.Judged.{Judged}
 use Rattle.layout.specs.declared.Judged.the-variants.{Writable, Refused}
 use Rattle.rules.specs.Lists.{any, present}
-use Rattle.rules.specs.Number.{Number, key, wideNumber, badList, untaken}
+use Rattle.rules.specs.Number.{Number, key, wideNumber, badIdentity, badList, short, untaken}
 use Rattle.rules.specs.Named.{badRange, maxNumbers, maxListedOwners, tooMany}
 use Rattle.rules.specs.Parameters.{badParameters}
 use Rattle.rules.specs.Mark.{open?}
-use Rattle.rules.specs.Order.{Define, Step, define, delete, answer, tick, defineGroups, deleteGroups}
+use Rattle.rules.specs.Owners.{maxOwners}
+use Rattle.rules.specs.Order.{Define, Step, define, delete, answer, handover, tick, defineGroups, deleteGroups, handoverGroup}
 use Rattle.rules.specs.World.{World, Tally}
 use Rattle.rules.specs.Outgoing.{outgoing}
 
--- the order in which refusals are looked for, by their numbers: that of document 01, and of document 02 "both after 11, 19 before 20"
+-- the order in which refusals are looked for, by their numbers: that of document 01, and of document 02 "both after 11, 19 before 20" and
+-- "21 .. directly after 13"
 abbrev pub lawOrder : List ℕ
-lawOrder = 18 ∷ 10 ∷ 11 ∷ 19 ∷ 20 ∷ 12 ∷ 13 ∷ 14 ∷ 15 ∷ 16 ∷ 17 ∷ []
+lawOrder = 18 ∷ 10 ∷ 11 ∷ 19 ∷ 20 ∷ 12 ∷ 13 ∷ 21 ∷ 14 ∷ 15 ∷ 16 ∷ 17 ∷ []
 
 -- the first refusal whose test holds; none where the order is accepted
 abbrev pub first : List (Refusal × Bool) → Option Refusal
@@ -64,6 +66,7 @@ tests w t (define o room) =
     ∷ (BadRange, badRange home (o .groups) || (badRange home (o .owners) || badRange home (o .radios)))
     ∷ (TooManyNumbers, tooMany maxNumbers home (o .groups) || (tooMany maxListedOwners home (o .owners) || tooMany maxNumbers home (o .radios)))
     ∷ (NotOwner, any (λ g. w .stands g && not (w .owner g (key (o .asker)))) (defineGroups o))
+    ∷ (TooManyOwners, any (λ g. ltb maxOwners (t .owners g)) (defineGroups o))
     ∷ (Full, ltb maxGroups (t .groups) || ltb maxPairs (t .pairs))
     ∷ (NoRoom, ltb room (length (outgoing w t (define o room))))
     ∷ []
@@ -82,6 +85,15 @@ tests w t (answer a) =
     (BadOrder, wideNumber (a .radio) || (wideNumber (a .group) || (eqb (a .result) 0 || ltb 4 (a .result))))
     ∷ (NoSuchGroup, not (w .stands (key (a .group))))
     ∷ (NotOpen, not (open? (w .mark (key (a .group)) (key (a .radio)))))
+    ∷ []
+tests w t (handover o) =
+    let home = o .asker .extension in
+    (BadOrder, wideNumber (o .asker) || (badIdentity (o .group) || badList (some (o .owners))))
+    ∷ (FormNotTaken, short (o .group) || untaken (some (o .owners)))
+    ∷ (BadRange, badRange home (some (o .owners)))
+    ∷ (TooManyNumbers, tooMany maxListedOwners home (some (o .owners)))
+    ∷ (NoSuchGroup, not (w .stands (handoverGroup o)))
+    ∷ (NotOwner, not (w .owner (handoverGroup o) (key (o .asker))))
     ∷ []
 tests w t tick = []
 

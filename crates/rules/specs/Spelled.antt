@@ -9,7 +9,7 @@ use lib.Dec.{eqb}
 use lib.ListN.{length}
 use Rattle.rules.specs.Number.{Identity, Numbers, ssiOf, extensionOf, used, identityKey, badList, untaken}
 use Rattle.rules.specs.Named.{numbers, badRange}
-use Rattle.rules.specs.Order.{Define, Delete, Step, define, delete}
+use Rattle.rules.specs.Order.{Define, Delete, Handover, Step, define, delete, handover}
 use Rattle.rules.specs.Ledger.{Ledger}
 use Rattle.rules.specs.Placing.{Placing}
 use Rattle.rules.specs.Steps.{refused, step, sent}
@@ -46,6 +46,9 @@ defineWith o groups owners radios = record {
 abbrev pub deleteWith : Delete → Numbers → Option Numbers → Delete
 deleteWith o groups radios = record { asker = o .asker; groups = groups; delete = o .delete; deassign = o .deassign; radios = radios }
 
+abbrev pub handoverWith : Handover → Numbers → Handover
+handoverWith o owners = record { asker = o .asker; group = o .group; owners = owners }
+
 -- an order, and the same order with some of its ranges spelled out
 pub data AsListed : Step → Step → Type 0 where
   defines : (o : Define) (room : ℕ) (groups owners radios : Option Numbers)
@@ -54,6 +57,8 @@ pub data AsListed : Step → Step → Type 0 where
   deletes : (o : Delete) (room : ℕ) (groups : Numbers) (radios : Option Numbers)
       → Said (o .asker .extension) (some (o .groups)) (some groups) → Said (o .asker .extension) (o .radios) radios
       → AsListed (delete o room) (delete (deleteWith o groups radios) room)
+  handsOver : (o : Handover) (owners : Numbers)
+      → Said (o .asker .extension) (some (o .owners)) (some owners) → AsListed (handover o) (handover (handoverWith o owners))
 
 -- what such orders do is one: under any placing, in any ledger, they are refused alike, leave one ledger, and send the same
 pub record AsOne (p : Placing) (l : Ledger) (s s′ : Step) : Type 0 where

@@ -33,8 +33,10 @@ groupTotal w groups = length (keep (w .stands) (rising groups))
 abbrev pub pairTotal : World → List ℕ → List ℕ → ℕ
 pairTotal w groups radios = sum (λ g. length (membersIn w radios g)) (rising groups)
 
--- what the refusals and the outgoing orders ask besides: each group's members, rising; the totals after the order
+-- what the refusals and the outgoing orders ask besides: each group's members, rising; how many owners each group has after the order, and
+-- the totals after it
 pub record Tally : Type 0 where
   pub members : ℕ → List ℕ
+  pub owners : ℕ → ℕ
   pub groups : ℕ
   pub pairs : ℕ

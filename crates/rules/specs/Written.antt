@@ -9,13 +9,10 @@ use Rattle.rules.specs.Lists.{all, present}
 use Rattle.rules.specs.Number.{wideKey}
 use Rattle.rules.specs.Parameters.{badParameters}
 use Rattle.rules.specs.Mark.{Mark, waiting, unheard, T1}
+pub use Rattle.rules.specs.Owners.{maxOwners}
 use Rattle.rules.specs.Refusals.{maxGroups, maxPairs}
 use Rattle.rules.specs.Ledger.{Group, Pair, Ledger, group}
 use Rattle.rules.specs.Placing.{Placing}
-
--- the asker and at most ten listed
-abbrev pub maxOwners : ℕ
-maxOwners = 11
 
 -- no owner of a group twice: by the placing's form
 abbrev pub goodOwners : Placing → List ℕ → Bool
