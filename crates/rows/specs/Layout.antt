@@ -1,7 +1,7 @@
 -- The layout of the lent storage and rooms: how many words a row has, and which word says what. Code has the same names.
 --     head      the count of groups, the count of pairs
---     a group   36 words: its key; set reference, acknowledged call, broadcast, class, lifetime, temporary, each one up, 0 where
---               absent; the name's length, 0 where absent, and 16 letters; the owners' count and 11 owners
+--     a group   41 words: its key; set reference, acknowledged call, broadcast, class, lifetime, temporary, each one up, 0 where
+--               absent; the name's length, 0 where absent, and 16 letters; the owners' count and 16 owners
 --     a pair    4 words: group, radio, state, ticks
 --     an outgoing order 5 words: kind; radio, group, each SSI and extension; a listed radio 3: SSI, extension, state
 use Prim.Native.Nat.{ℕ}
@@ -16,7 +16,7 @@ abbrev pub pairCount : ℕ
 pairCount = 1
 
 abbrev pub groupWords : ℕ
-groupWords = 36
+groupWords = 41
 
 abbrev pub pairWords : ℕ
 pairWords = 4

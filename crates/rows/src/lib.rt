@@ -9,7 +9,7 @@ pub const MAX_GROUPS: usize = 320;
 
 pub const MAX_PAIRS: usize = 2048;
 
-pub const MAX_OWNERS: usize = 11;
+pub const MAX_OWNERS: usize = 16;
 
 pub const MAX_LETTERS: usize = 16;
 
@@ -22,7 +22,7 @@ pub const MAX_LISTED_OWNERS: usize = 10;
 // The words of the head, of a group's row and of a pair's row; of an outgoing order and of a listed radio.
 pub const HEAD_WORDS: usize = 2;
 
-pub const GROUP_WORDS: usize = 36;
+pub const GROUP_WORDS: usize = 41;
 
 pub const PAIR_WORDS: usize = 4;
 
