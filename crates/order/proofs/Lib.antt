@@ -1,5 +1,6 @@
 -- Laws of an order's lists and row.
 pub mod Walks
+pub mod Copying
 pub mod Moves
 pub mod Sorting
 pub mod ListLaws

@@ -14,6 +14,10 @@ use Rattle.order.proofs.lists.wide_group.Kinds as wide-group-kinds
 use Rattle.order.proofs.lists.wide_group.Reads as wide-group
 use Rattle.order.proofs.lists.used_count.Kinds as used-count-kinds
 use Rattle.order.proofs.lists.used_count.Reads as used-count
+use Rattle.order.proofs.lists.bad_identity.Kinds as bad-identity-kinds
+use Rattle.order.proofs.lists.bad_identity.Reads as bad-identity
+use Rattle.order.proofs.lists.short.Kinds as short-kinds
+use Rattle.order.proofs.lists.short.Reads as short
 use Rattle.order.proofs.lists.bad_list.Kinds as bad-list-kinds
 use Rattle.order.proofs.lists.bad_list.Reads as bad-list
 use Rattle.order.proofs.lists.untaken.Kinds as untaken-kinds
@@ -38,6 +42,8 @@ use Rattle.order.proofs.keys.extension_in.Kinds as extension-in-kinds
 use Rattle.order.proofs.keys.extension_in.Reads as extension-in
 use Rattle.order.proofs.keys.identity_key.Kinds as identity-key-kinds
 use Rattle.order.proofs.keys.identity_key.Reads as identity-key
+use Rattle.order.proofs.keys.group_in.Kinds as group-in-kinds
+use Rattle.order.proofs.keys.group_in.Reads as group-in
 use Rattle.order.proofs.keys.groups_in.Kinds as groups-in-kinds
 use Rattle.order.proofs.keys.groups_in.Reads as groups-in
 use Rattle.order.proofs.keys.radios_in.Kinds as radios-in-kinds
@@ -77,6 +83,12 @@ wide-group-unique κs a r r′ s s′ p q = p ∙ sym q
 pub used-count-unique : Unique used-count-kinds.ps used-count-kinds.r used-count.Post
 used-count-unique κs a r r′ s s′ p q = p ∙ sym q
 
+pub bad-identity-unique : Unique bad-identity-kinds.ps bad-identity-kinds.r bad-identity.Post
+bad-identity-unique κs a r r′ s s′ p q = p ∙ sym q
+
+pub short-unique : Unique short-kinds.ps short-kinds.r short.Post
+short-unique κs a r r′ s s′ p q = p ∙ sym q
+
 pub bad-list-unique : Unique bad-list-kinds.ps bad-list-kinds.r bad-list.Post
 bad-list-unique κs a r r′ s s′ p q = p ∙ sym q
 
@@ -112,6 +124,9 @@ extension-in-unique κs a r r′ s s′ p q = p ∙ sym q
 
 pub identity-key-unique : Unique identity-key-kinds.ps identity-key-kinds.r identity-key.Post
 identity-key-unique κs a r r′ s s′ p q = p ∙ sym q
+
+pub group-in-unique : Unique group-in-kinds.ps group-in-kinds.r group-in.Post
+group-in-unique κs a r r′ s s′ p q = λ i. record { 0 = (p ∙ sym q) i }
 
 pub groups-in-unique : Unique groups-in-kinds.ps groups-in-kinds.r groups-in.Post
 groups-in-unique κs a r r′ s s′ p q = p ∙ sym q

@@ -3,8 +3,7 @@ use Prim.Native.Nat.{ℕ}
 use mathlib.Core.Bool.{Bool, cond}
 use mathlib.Core.List.{List, map}
 use mathlib.Core.Option.{Option, none, some}
-use lib.Dec.{eqb}
-use Rattle.rules.specs.Number.{badIdentity}
+use Rattle.rules.specs.Number.{badIdentity, short}
 use Rattle.rules.specs.Number as number
 use Rattle.order.specs.declared.Identity.{Identity}
 use Rattle.order.specs.declared.Numbers.{Numbers}
@@ -27,4 +26,4 @@ listOf l = cond (l .given) (some (numbersOf (l .numbers))) none
 -- what is wrong with an identity: bad, or short (an SNA)
 abbrev pub faulty : Fault → number.Identity → Bool
 faulty Bad i = badIdentity i
-faulty Short i = eqb (i .form) 0
+faulty Short i = short i

@@ -107,6 +107,13 @@ pub fn identity_key(identity: Identity, home: u32) -> u64
     key(identity.ssi, extension_in(identity, home))
 }
 
+// The group that an identity names.
+pub fn group_in(asker: Itsi, identity: Identity) -> GroupKey
+    ensures { λ r. ⌜ r .0 ≡ identityKey (asker .1) (identityOf identity) ⌝ }
+{
+    GroupKey(identity_key(identity, asker.1))
+}
+
 // The groups of a list; none where it is not given, or names too many.
 pub fn groups_in(asker: Itsi, list: Listed) -> Groups
     ensures { λ r. ⌜ r ≡ groupsAs (fitting maxNumbers (numbersIn (asker .1) (listOf list))) ⌝ }

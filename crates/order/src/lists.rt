@@ -8,7 +8,7 @@ use rows::MAX_LISTED;
 ghost use Prim.Native.Nat.{min};
 ghost use mathlib.Core.Path.{_≡_};
 ghost use Rattle.rules.specs.Lists.{mem, any};
-ghost use Rattle.rules.specs.Number.{count, used, wide, wideNumber, badList, untaken};
+ghost use Rattle.rules.specs.Number.{count, used, wide, wideNumber, badIdentity, badList, short, untaken};
 ghost use Rattle.rows.specs.Layout.{maxListed};
 ghost use Rattle.order.specs.Numbers.{radioNumber, groupNumber};
 ghost use Rattle.order.specs.Lists.{identityOf, numbersAs, listOf, faulty};
@@ -79,6 +79,20 @@ fn is_faulty(identity: Identity, fault: Fault) -> bool
         }
         Fault::Short => identity.form == 0,
     }
+}
+
+// Whether an identity has a reserved form, or a part in use above 24 bits.
+pub fn bad_identity(identity: Identity) -> bool
+    ensures { λ r. ⌜ r ≡ badIdentity (identityOf identity) ⌝ }
+{
+    is_faulty(identity, Fault::Bad)
+}
+
+// Whether an identity is an SNA.
+pub fn short(identity: Identity) -> bool
+    ensures { λ r. ⌜ r ≡ short (identityOf identity) ⌝ }
+{
+    is_faulty(identity, Fault::Short)
 }
 
 // Whether an identity in use has this fault.
