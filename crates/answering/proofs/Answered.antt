@@ -17,6 +17,7 @@ use Rattle.rules.specs.Ledger.{Pair, samePair, empty, view}
 use Rattle.rules.specs.ByNumber.{belowPair}
 use Rattle.rules.specs.Refusals.{tests}
 use Rattle.rules.specs.Steps.{tally, apply, refused}
+use Rattle.rules.proofs.LawOrder.{tests-pass}
 use Rattle.rules.proofs.Tests.{clash}
 use Rattle.rules.proofs.ByKey.{apart, apart-back}
 use Rattle.rules.proofs.ByNumber.{pairs-linear}
@@ -35,7 +36,7 @@ use Rattle.store.specs.Form.{Sound}
 use Rattle.store.proofs.FormLaws.{Room, pairs-rise}
 use Rattle.store.proofs.HalvingLaws.{item-at}
 use Rattle.store.proofs.PlaceLaws.{InRows, in-rows}
-use Rattle.replies.proofs.Orders.{alter-length, head-counts, set-both, count-groups, count-pairs, groups-stay, tests-pass}
+use Rattle.replies.proofs.Orders.{alter-length, head-counts, set-both, count-groups, count-pairs, groups-stay}
 use Rattle.answering.specs.Answers.{foundOpen, settled}
 use Rattle.answering.proofs.OneEntry.{alter-one-entry}
 

@@ -39,7 +39,7 @@ use Rattle.replies.proofs.Orders.{first-some, reply-some, count-pairs}
 use Rattle.asking.specs.Copied.{InStretch, listed, copied}
 use Rattle.asking.proofs.Asking.{asked-none}
 use Rattle.order.proofs.Walks.{map-left}
-use Rattle.asking.proofs.Copying.{copied-length}
+use Rattle.asking.proofs.Copied.{copied-length}
 
 module _ (c : Contents) (asker : Itsi) (group : Gtsi) (room : Rows) where
   abbrev last : List (Refusal × Bool)

@@ -21,7 +21,7 @@ use Rattle.rules.specs.Steps.{tally, apply, refused}
 use Rattle.rules.proofs.Walks.{alter-all}
 use Rattle.rules.proofs.Listing.{stretch-members}
 use Rattle.rules.proofs.Tests.{or-l, or-r}
-use Rattle.rules.proofs.LawOrder.{first-none}
+use Rattle.rules.proofs.LawOrder.{tests-pass}
 use Rattle.order.specs.Numbers.{radioNumber}
 use Rattle.order.specs.Keys.{fitting}
 use Rattle.order.proofs.RangeLaws.{passed-whole}
@@ -37,7 +37,7 @@ use Rattle.store.proofs.FormLaws.{pairs-rise}
 use Rattle.replies.specs.Orders.{replyOf, verdict}
 use Rattle.replies.specs.declared.Reply.{Reply}
 use Rattle.replies.specs.declared.Reply.the-variants.{Done, Refused}
-use Rattle.replies.proofs.Orders.{set-both, first-some, reply-none, reply-some, alter-same, tests-pass}
+use Rattle.replies.proofs.Orders.{set-both, form-refuses, stand-tells, alter-same}
 use Rattle.turning.specs.Turns.{turnOf}
 use Rattle.deleting.specs.Leaving.{among, leaving, leavingOrders}
 use Rattle.deleting.specs.Deletes.{formTests, standTests, deleteTurn, groupsLeft, pairsLeft}
@@ -90,10 +90,10 @@ module _ (c : Contents) (w : Sound c) where
     delete-tests = rw (delete-sends, given, given-present (radios .given) (numbersOf (radios .numbers)))
 
     pub form-refused : (r : Refusal) → Refused r ≡ replyOf (first forms) → Refused r ≡ replyOf (verdict c step)
-    form-refused r e = rw (w .form) (ap replyOf (sym (ap first delete-tests ∙ first-some forms stands r (reply-some (first forms) r e))))
+    form-refused = form-refuses c w step forms stands delete-tests
 
     pub stand-replies : (r : Reply) → Done ≡ replyOf (first forms) → r ≡ replyOf (first stands) → r ≡ replyOf (verdict c step)
-    stand-replies r e q = q ∙ rw (w .form) (ap replyOf (sym (ap first delete-tests ∙ first-none forms stands (reply-none (first forms) e))))
+    stand-replies r e q = q ∙ stand-tells c w step forms stands delete-tests e
 
     -- whether a list names too many
     abbrev manyGroups : Bool

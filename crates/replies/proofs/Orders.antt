@@ -3,7 +3,7 @@ use mathlib.Core.Path.{_≡_, refl, sym, ap, _∙_}
 use mathlib.Core.Bool.{Bool, true, false, cond}
 use mathlib.Core.List.{List, [], _∷_, _++_, map}
 use mathlib.Core.Option.{Option, none, some}
-use Prim.Native.Nat.{ℕ, zero, suc, _≤_}
+use Prim.Native.Nat.{ℕ, suc, _≤_}
 use native.Mathlib.Omega.{arith}
 use lib.ListN.{length, getD, set}
 use Rattle.refusal.specs.declared.Refusal.{Refusal}
@@ -12,9 +12,10 @@ use Rattle.rules.specs.Entries.{alter}
 use Rattle.rules.specs.Order.{Step}
 use Rattle.rules.specs.Effect.{effect}
 use Rattle.rules.specs.Outgoing.{Outgoing, outgoing}
-use Rattle.rules.specs.Refusals.{first, accepted}
+use Rattle.rules.specs.Refusals.{first, accepted, tests}
 use Rattle.rules.specs.Ledger.{view}
 use Rattle.rules.specs.Steps.{tally, apply, refused, step, sent}
+use Rattle.rules.proofs.LawOrder.{first-none}
 use Rattle.order.specs.Walks.{onto}
 use Rattle.store.specs.Storage.{Contents, groupOf, groupRow, pairOf, pairRow, groupCount, pairCount, placing, ledgerOf, laid}
 use Rattle.store.specs.Form.{isWritten, Sound}
@@ -52,20 +53,6 @@ module _ (c : Contents) (s : Step) where
 
 -- ---- the tests, and the reply that tells them ----
 
--- where none of the tests holds, each does not
-pub tests-pass : (l : List (Refusal × Bool)) → first l ≡ none → (i : ℕ) → getD l i (NotWritten, false) .1 ≡ false
-tests-pass [] e i = refl
-tests-pass (t ∷ l) e zero = go (t .1) e
-  where
-    go : (b : Bool) → cond b (some (t .0)) (first l) ≡ none → b ≡ false
-    go true q = let z : _≡_ {A = ℕ} 0 1 = cc in absurd (omega arith)
-    go false q = refl
-tests-pass (t ∷ l) e (suc i) = tests-pass l (go (t .1) e) i
-  where
-    go : (b : Bool) → cond b (some (t .0)) (first l) ≡ none → first l ≡ none
-    go true q = let z : _≡_ {A = ℕ} 0 1 = cc in absurd (omega arith)
-    go false q = q
-
 -- tests and further tests
 pub first-some : (a b : List (Refusal × Bool)) (r : Refusal) → first a ≡ some r → first (a ++ b) ≡ some r
 first-some [] b r e = let z : _≡_ {A = ℕ} 0 1 = cc in absurd (omega arith)
@@ -87,6 +74,15 @@ reply-some (some x) r e = let q : x ≡ r = cc in ap some q
 -- a refusal is no acceptance
 pub not-done : {P : Type 0} (r : Refusal) → Refused r ≡ Done → P
 not-done r e = let z : _≡_ {A = ℕ} 0 1 = cc in absurd (omega arith)
+
+-- an order whose tests are those of its form, then others: the form's tell, and where none of them holds the others do
+module _ (c : Contents) (w : Sound c) (s : Step) (forms stands : List (Refusal × Bool))
+    (t : tests (view (ledgerOf c)) (tally placing (ledgerOf c) (effect (view (ledgerOf c)) s)) s ≡ forms ++ stands) where
+  pub form-refuses : (r : Refusal) → Refused r ≡ replyOf (first forms) → Refused r ≡ replyOf (verdict c s)
+  form-refuses r e = rw (w .form) (ap replyOf (sym (ap first t ∙ first-some forms stands r (reply-some (first forms) r e))))
+
+  pub stand-tells : Done ≡ replyOf (first forms) → replyOf (first stands) ≡ replyOf (verdict c s)
+  stand-tells e = rw (w .form) (ap replyOf (sym (ap first t ∙ first-none forms stands (reply-none (first forms) e))))
 
 -- ---- the contents ----
 
@@ -118,6 +114,9 @@ module _ (c : Contents) (w : Sound c) where
 
   pub groups-stay : onto (map groupRow (ledgerOf c .groups)) (c .groups) ≡ c .groups
   groups-stay = lay-plain groupOf groupRow (c .groups) (groupCount c) (omega (arith, w .groups, w .fewGroups)) (w .groupRows)
+
+  pub pairs-stay : onto (map pairRow (ledgerOf c .pairs)) (c .pairs) ≡ c .pairs
+  pairs-stay = lay-plain pairOf pairRow (c .pairs) (pairCount c) (omega (arith, w .pairs, w .fewPairs)) (w .pairRows)
 
 -- ---- an order that sends ----
 

@@ -13,6 +13,8 @@ use Rattle.store.proofs.places.state_in.Kinds as state-in-kinds
 use Rattle.store.proofs.places.state_in.Reads as state-in
 use Rattle.store.proofs.places.find.Kinds as find-kinds
 use Rattle.store.proofs.places.find.Reads as find
+use Rattle.store.proofs.named.owner_in.Kinds as owner-in-kinds
+use Rattle.store.proofs.named.owner_in.Reads as owner-in
 use Rattle.store.proofs.named.owned_by.Kinds as owned-by-kinds
 use Rattle.store.proofs.named.owned_by.Reads as owned-by
 use Rattle.store.proofs.named.any_group.Kinds as any-group-kinds
@@ -39,6 +41,9 @@ state-in-unique κs a r r′ s s′ p q = p ∙ sym q
 
 pub find-unique : Unique find-kinds.ps find-kinds.r find.Post
 find-unique κs a r r′ s s′ p q = p ∙ sym q
+
+pub owner-in-unique : Unique owner-in-kinds.ps owner-in-kinds.r owner-in.Post
+owner-in-unique κs a r r′ s s′ p q = p ∙ sym q
 
 pub owned-by-unique : Unique owned-by-kinds.ps owned-by-kinds.r owned-by.Post
 owned-by-unique κs a r r′ s s′ p q = p ∙ sym q

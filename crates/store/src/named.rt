@@ -23,7 +23,7 @@ ghost use Rattle.store.specs.Places.{lookedUp};
 ghost use Rattle.store.specs.Storage.{groupOf, groupsOf};
 
 // Whether a radio is an owner of a group.
-fn owner_in(row: [u64; GROUP_WORDS], asker: RadioKey) -> bool
+pub fn owner_in(row: [u64; GROUP_WORDS], asker: RadioKey) -> bool
     ensures { λ r. ⌜ r ≡ mem (asker .0) (groupOf row .1 .owners) ⌝ }
 {
     let end = FIRST_OWNER + lesser(row[OWNER_COUNT] as usize, MAX_OWNERS);

@@ -9,7 +9,8 @@ use Rattle.store.specs.Storage.{pairOf}
 use Rattle.replies.specs.Listing.{entryRow}
 use Rattle.order.specs.Walks.{onto}
 use Rattle.asking.specs.Copied.{copied}
-use Rattle.asking.proofs.Copying.{copy-turn, copy-all, copied-length, copied-at, state-held}
+use Rattle.order.proofs.Copying.{copy-turn, copy-all}
+use Rattle.asking.proofs.Copied.{copied-length, copied-at, state-held}
 use borrow.Author.Needs.{needs}
 use Rattle.asking.proofs.copy_stretch.Statement.{statement}
 use Rattle.asking.proofs.copy_stretch.Tie as tie
