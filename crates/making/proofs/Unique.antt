@@ -1,11 +1,18 @@
--- Any two rows that the contract of `made_row` allows are equal.
-use mathlib.Core.Path.{_≡_, sym, _∙_}
-use contract.Lifetimes.{Lfts}
-use borrow.Fn.Kinds.{Dens, resT, endedOf}
-use denote.Triple.Clauses.{AtExit}
-use Rattle.making.proofs.made_row.Kinds as kinds
+-- Any two results that a function's contract allows are equal. `Post` is a contract's claim as the checker reads it.
+use mathlib.Core.Path.{sym, _∙_}
+use Rattle.order.proofs.Unique.{Unique}
+use Rattle.making.proofs.made_row.Kinds as made-row-kinds
 use Rattle.making.proofs.made_row.Reads as made-row
+use Rattle.making.proofs.owners.held_owners.Kinds as held-owners-kinds
+use Rattle.making.proofs.owners.held_owners.Reads as held-owners
+use Rattle.making.proofs.owners.any_crowded.Kinds as any-crowded-kinds
+use Rattle.making.proofs.owners.any_crowded.Reads as any-crowded
 
-module _ (κs : Lfts 0) (a : Dens κs kinds.ps) (r r′ : resT kinds.r κs .Denot) (s s′ : AtExit (endedOf 0 kinds.ps kinds.r) κs) where
-  pub made-row-unique : made-row.Post κs a r s → made-row.Post κs a r′ s′ → r ≡ r′
-  made-row-unique p q = p ∙ sym q
+pub made-row-unique : Unique made-row-kinds.ps made-row-kinds.r made-row.Post
+made-row-unique κs a r r′ s s′ p q = p ∙ sym q
+
+pub held-owners-unique : Unique held-owners-kinds.ps held-owners-kinds.r held-owners.Post
+held-owners-unique κs a r r′ s s′ p q = p ∙ sym q
+
+pub any-crowded-unique : Unique any-crowded-kinds.ps any-crowded-kinds.r any-crowded.Post
+any-crowded-unique κs a r r′ s s′ p q = p ∙ sym q

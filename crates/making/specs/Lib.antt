@@ -1,3 +1,4 @@
 -- The definitions that the contracts of a made row cite.
 pub mod Row
+pub mod Owners
 pub mod Fine

@@ -1,4 +1,6 @@
-// A group's row as an order leaves it.
+// A group's row as an order leaves it, and its owners.
+pub mod owners;
+
 use order::GroupKey;
 use order::Owners;
 use rows::FIRST_OWNER;
