@@ -1,18 +1,19 @@
 -- Laws of what a define leaves: its lists put in rising order make the same, there is room for it, and it is laid over the contents.
 use mathlib.Core.Path.{_≡_, sym, ap, _∙_}
-use mathlib.Core.Bool.{Bool, true, not, _&&_}
+use mathlib.Core.Bool.{true, not, _&&_}
 use mathlib.Core.List.{List, [], _∷_, map}
 use Prim.Native.Nat.{ℕ, _+_}
 use native.Mathlib.Omega.{arith}
 use lib.Dec.{eqb, ltb}
 use lib.ListN.{length, set}
 use borrow.Author.Tests.{eqb-true}
-use Rattle.rules.specs.Lists.{unique, present, rises, inOrder}
+use Rattle.rules.specs.Lists.{unique, mem, present, rises, inOrder}
 use Rattle.rules.specs.Entries.{find}
 use Rattle.rules.specs.Mark.{Mark, fresh}
+use Rattle.rules.specs.Parameters.{Parameters}
 use Rattle.rules.specs.Ledger.{Group, Pair, samePair}
 use Rattle.rules.specs.ByNumber.{byKey, belowPair}
-use Rattle.rules.specs.Steps.{groupAfter, product}
+use Rattle.rules.specs.Steps.{product}
 use Rattle.rules.proofs.ListLaws.{eqb-same, once-unique, mem-order, rising-order}
 use Rattle.rules.proofs.Pairs.{pair-sound, pair-itself, any-product, product-apart, length-product}
 use Rattle.rules.proofs.Puts.{length-puts}
@@ -25,7 +26,7 @@ use Rattle.store.specs.Storage.{Rows, Contents, contents, groupOf, groupRow, pa
 use Rattle.store.proofs.FormLaws.{groups-rise, pairs-rise}
 use Rattle.replies.proofs.Orders.{set-both, count-groups, count-pairs}
 use Rattle.defining.specs.Carried.{carried, Carries}
-use Rattle.defining.specs.Groups.{madeGroups}
+use Rattle.defining.specs.Groups.{madeGroup, madeGroups, Grows}
 use Rattle.defining.specs.Pairs.{setPairs}
 use Rattle.defining.specs.Putting.{Takes}
 use Rattle.defining.specs.Totals.{newGroups, newPairs}
@@ -34,16 +35,16 @@ use Rattle.defining.specs.Totals.{newGroups, newPairs}
 pub sorted-rises : (l : List ℕ) → unique l ≡ true → rises ltb (inOrder l) ≡ true
 sorted-rises l u = rising-rises (inOrder l) (rising-order l (once-unique l u))
 
-module _ (c : Contents) (keeps : Bool) (order groups radios : List ℕ) (state : ℕ) (w : Carries c keeps order groups radios state) where
-  abbrev new : Group
-  new = groupOf order .1
+module _ (c : Contents) (order come groups radios : List ℕ) (state : ℕ) (w : Carries c order come groups radios state) where
+  abbrev new : Parameters
+  new = groupOf order .1 .parameters
 
   abbrev made : ℕ → Group
-  made g = groupAfter keeps new (find eqb (ledgerOf c .groups) g)
+  made = madeGroup come new (ledgerOf c .groups)
 
   -- ---- the order of the keys makes no difference ----
 
-  made-sorted : madeGroups keeps new (inOrder groups) (ledgerOf c .groups) ≡ madeGroups keeps new groups (ledgerOf c .groups)
+  made-sorted : madeGroups come new (inOrder groups) (ledgerOf c .groups) ≡ madeGroups come new groups (ledgerOf c .groups)
   made-sorted = puts-same numbers-linear made (ledgerOf c .groups) (inOrder groups) groups (groups-rise c (w .sound)) (λ k. mem-order k groups)
 
   set-sorted : setPairs state (inOrder radios) (inOrder groups) (ledgerOf c .pairs) ≡ setPairs state radios groups (ledgerOf c .pairs)
@@ -58,7 +59,7 @@ module _ (c : Contents) (keeps : Bool) (order groups radios : List ℕ) (state :
 
   -- ---- the totals ----
 
-  made-total : length (madeGroups keeps new groups (ledgerOf c .groups)) ≡ groupCount c + newGroups (ledgerOf c .groups) groups
+  made-total : length (madeGroups come new groups (ledgerOf c .groups)) ≡ groupCount c + newGroups (ledgerOf c .groups) groups
   made-total =
       length-puts eqb eqb-true eqb-same (byKey ltb) (by-key numbers-linear) (ledgerOf c .groups) groups made (groups-rise c (w .sound))
       (once-unique groups (w .groupsOnce))
@@ -74,13 +75,21 @@ module _ (c : Contents) (keeps : Bool) (order groups radios : List ℕ) (state :
 
   module _ (these those : List ℕ) (a : these ≡ inOrder groups) (b : those ≡ inOrder radios) (n m : ℕ)
       (e : n ≡ newGroups (ledgerOf c .groups) groups) (d : m ≡ newPairs (ledgerOf c .pairs) radios groups) where
-    made-same : madeGroups keeps new these (ledgerOf c .groups) ≡ madeGroups keeps new groups (ledgerOf c .groups)
-    made-same = ap (λ (z : List ℕ). madeGroups keeps new z (ledgerOf c .groups)) a ∙ made-sorted
+    made-same : madeGroups come new these (ledgerOf c .groups) ≡ madeGroups come new groups (ledgerOf c .groups)
+    made-same = ap (λ (z : List ℕ). madeGroups come new z (ledgerOf c .groups)) a ∙ made-sorted
 
     set-same : setPairs state those these (ledgerOf c .pairs) ≡ setPairs state radios groups (ledgerOf c .pairs)
     set-same = (λ i. setPairs state (b i) (a i) (ledgerOf c .pairs)) ∙ set-sorted
 
-    pub groups-taken : Takes ltb groupOf groupRow (madeGroups keeps new these (ledgerOf c .groups)) (c .groups) (groupCount c) n
+    pub groups-grow : Grows (ledgerOf c .groups) these come
+    groups-grow = record {
+      fine = w .grows .fine;
+      few = λ g x m e. w .grows .few g x (sym (mem-order g groups) ∙ ap (mem g) (sym a) ∙ m) e;
+      rises = w .grows .rises;
+      fits = w .grows .fits;
+    }
+
+    pub groups-taken : Takes ltb groupOf groupRow (madeGroups come new these (ledgerOf c .groups)) (c .groups) (groupCount c) n
     groups-taken =
         let s = w .sound in
         record {
@@ -104,11 +113,11 @@ module _ (c : Contents) (keeps : Bool) (order groups radios : List ℕ) (state :
           room = rw set-same (omega (arith, w .fewPairs, s .pairs));
         }
 
-    pub carried-laid : (groups′ pairs′ : Rows) → groups′ ≡ onto (map groupRow (madeGroups keeps new these (ledgerOf c .groups))) (c .groups)
+    pub carried-laid : (groups′ pairs′ : Rows) → groups′ ≡ onto (map groupRow (madeGroups come new these (ledgerOf c .groups))) (c .groups)
         → pairs′ ≡ onto (map pairRow (setPairs state those these (ledgerOf c .pairs))) (c .pairs)
-        → contents (set (set (c .head) 0 (groupCount c + n)) 1 (pairCount c + m)) groups′ pairs′ ≡ laid (carried keeps new groups radios state c) c
+        → contents (set (set (c .head) 0 (groupCount c + n)) 1 (pairCount c + m)) groups′ pairs′ ≡ laid (carried come new groups radios state c) c
     carried-laid groups′ pairs′ g p =
-        let x : groupCount c + n ≡ length (madeGroups keeps new groups (ledgerOf c .groups)) = ap (λ (k : ℕ). groupCount c + k) e ∙ sym made-total in
+        let x : groupCount c + n ≡ length (madeGroups come new groups (ledgerOf c .groups)) = ap (λ (k : ℕ). groupCount c + k) e ∙ sym made-total in
         let y : pairCount c + m ≡ length (setPairs state radios groups (ledgerOf c .pairs)) = ap (λ (k : ℕ). pairCount c + k) d ∙ sym set-total in
         let h = set-both (c .head) (groupCount c + n) (pairCount c + m) (w .sound .head) ∙ (λ i. onto (x i ∷ y i ∷ []) (c .head)) in
         let gs = g ∙ ap (λ (z : List (ℕ × Group)). onto (map groupRow z) (c .groups)) made-same in

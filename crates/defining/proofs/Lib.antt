@@ -1,6 +1,6 @@
 -- Laws of a define.
 pub mod Downward
-pub mod Counting
+pub mod Entering
 pub mod Making
 pub mod Products
 pub mod Assigning

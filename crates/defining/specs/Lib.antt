@@ -2,6 +2,7 @@
 pub mod Parts
 pub mod Putting
 pub mod Pairs
+pub mod Joining
 pub mod Groups
 pub mod Carried
 pub mod Sent

@@ -1,9 +1,9 @@
 -- The lists of a define as they are handed on: keys, owners, and what is asked of the lists.
 use Prim.Native.Nat.{ℕ}
-use mathlib.Core.Bool.{not, _||_}
+use mathlib.Core.Bool.{_||_}
 use mathlib.Core.List.{List, _∷_}
 use mathlib.Core.Option.{Option}
-use Rattle.rules.specs.Lists.{present, rising}
+use Rattle.rules.specs.Lists.{rising}
 use Rattle.rules.specs.Number.{Numbers, key, untaken}
 use Rattle.rules.specs.Named.{numbersIn, badRange, tooMany, maxNumbers, maxListedOwners}
 use Rattle.rules.specs.Order.{Define, defineGroups, defineRadios}
@@ -25,7 +25,7 @@ faultsIn home groups owners radios = record {
 abbrev pub faultsOf : Define → Faults
 faultsOf o = faultsIn (o .asker .extension) (o .groups) (o .owners) (o .radios)
 
--- "asker plus those listed"
+-- "the asker and those listed"
 abbrev pub ownersNamed : Define → List ℕ
 ownersNamed o = key (o .asker) ∷ fitting maxListedOwners (numbersIn (o .asker .extension) (o .owners))
 
@@ -36,6 +36,5 @@ partsOf asker places =
       named = groupsAs (fitting maxNumbers (defineGroups o));
       radios = radiosAs (fitting maxNumbers (defineRadios o));
       owners = ownersAs (rising (ownersNamed o));
-      keeps = not (present (o .owners));
       faults = faultsOf o;
     }

@@ -4,6 +4,7 @@ use crate::pairing::set_all;
 use crate::refusing::new_groups;
 use crate::refusing::new_pairs;
 use order::Groups;
+use order::Owners;
 use order::Radios;
 use order::keys::groups_rising;
 use order::keys::radios_rising;
@@ -12,7 +13,7 @@ use rows::GROUP_WORDS;
 use rows::PAIR_COUNT;
 use rows::PAIR_WORDS;
 ghost use mathlib.Core.Path.{_≡_};
-ghost use Rattle.order.specs.Keys.{groupKeys, radioKeys};
+ghost use Rattle.order.specs.Keys.{groupKeys, radioKeys, ownersHeld};
 ghost use Rattle.store.specs.Storage.{contents, groupOf, laid};
 ghost use Rattle.defining.specs.Carried.{Carries, carried};
 
@@ -23,13 +24,13 @@ pub fn carry_out(
     pairs: &mut [[u64; PAIR_WORDS]],
     named: Groups,
     radios: Radios,
-    keeps: bool,
     order: [u64; GROUP_WORDS],
+    come: Owners,
     state: u64,
 )
-    requires { ⌜ Carries (contents (now head) (now groups) (now pairs)) keeps order (groupKeys named) (radioKeys radios) state ⌝ }
+    requires { ⌜ Carries (contents (now head) (now groups) (now pairs)) order (ownersHeld come) (groupKeys named) (radioKeys radios) state ⌝ }
     ensures { λ _. ⌜ contents (now (head .exit)) (now (groups .exit)) (now (pairs .exit)) ≡
-        laid (carried keeps (groupOf order .1) (groupKeys named) (radioKeys radios) state
+        laid (carried (ownersHeld come) (groupOf order .1 .parameters) (groupKeys named) (radioKeys radios) state
         (contents (now (head .entry)) (now (groups .entry)) (now (pairs .entry))))
         (contents (now (head .entry)) (now (groups .entry)) (now (pairs .entry))) ⌝ }
 {
@@ -38,7 +39,7 @@ pub fn carry_out(
     let more_groups = new_groups(groups, group_count, named);
     let more_pairs = new_pairs(pairs, pair_count, named, radios);
     let these = groups_rising(named);
-    make_groups(groups, group_count, more_groups, these, keeps, order);
+    make_groups(groups, group_count, more_groups, these, order, come);
     set_all(
         pairs,
         pair_count,

@@ -1,6 +1,7 @@
 // A define: the named groups are made or changed, and the listed radios assigned to them.
 mod carrying;
 mod grouping;
+mod joining;
 mod outgoing;
 mod pairing;
 mod parts;
@@ -52,7 +53,7 @@ pub fn define(
     }
     let named = parts.named;
     let radios = parts.radios;
-    let row = order_row(place, parts.owners);
+    let row = order_row(place);
     let sent = assign_orders(named, radios, out);
     carry_out(
         head,
@@ -60,8 +61,8 @@ pub fn define(
         pairs,
         named,
         radios,
-        parts.keeps,
         row,
+        parts.owners,
         first_state(place),
     );
     Sent::Orders(sent)

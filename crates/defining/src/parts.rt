@@ -24,13 +24,11 @@ pub struct Faults {
     pub many: bool,
 }
 
-// The groups and radios that a define names, the owners that it gives, whether the groups that stand keep theirs, and
-// what its lists are refused for.
+// The groups and radios that a define names, the owners who come, and what its lists are refused for.
 pub struct Parts {
     pub named: Groups,
     pub radios: Radios,
     pub owners: Owners,
-    pub keeps: bool,
     pub faults: Faults,
 }
 
@@ -51,12 +49,10 @@ pub fn parts_of(asker: Itsi, place: [u32; PLACES]) -> Parts
     ensures { λ r. ⌜ r ≡ partsOf asker place ⌝ }
 {
     let lists = lists_of(place);
-    let owners = lists.owners;
     Parts {
         named: groups_in(asker, lists.groups),
         radios: radios_in(asker, lists.radios),
-        owners: owners_in(asker, owners),
-        keeps: !owners.given,
+        owners: owners_in(asker, lists.owners),
         faults: faults_of(asker, lists),
     }
 }

@@ -4,9 +4,11 @@ use crate::parts::Parts;
 use frame::Judged;
 use frame::Kind;
 use frame::PLACES;
+use making::owners::any_crowded;
 use order::GroupKey;
 use order::Groups;
 use order::Itsi;
+use order::Owners;
 use order::RadioKey;
 use order::Radios;
 use order::keys::group_at;
@@ -42,7 +44,7 @@ ghost use Rattle.rules.specs.Named.{maxNumbers};
 ghost use Rattle.rules.specs.Recorded.{defineOf};
 ghost use Rattle.rules.specs.Refusals.{maxGroups, maxPairs, first, refuses};
 ghost use Rattle.order.specs.Numbers.{radioNumber};
-ghost use Rattle.order.specs.Keys.{groupKeys, radioKeys};
+ghost use Rattle.order.specs.Keys.{groupKeys, radioKeys, ownersHeld};
 ghost use Rattle.order.specs.Steps.{defineStep};
 ghost use Rattle.store.specs.Storage.{contents, pairsOf, groupsOf};
 ghost use Rattle.replies.specs.Orders.{replyOf, Judges};
@@ -141,6 +143,7 @@ fn define_stand_fault(
     pairs_held: usize,
     asker: RadioKey,
     named: Groups,
+    come: Owners,
     radios: Radios,
     room: usize,
 ) -> Reply
@@ -148,10 +151,13 @@ fn define_stand_fault(
         × («pairs_held» ≤ length (now pairs)) × («pairs_held» ≤ maxPairs)
         × (rises (lower ltb) (groupsOf «groups_held» (now groups)) ≡ true) × (rises (lower belowPair) (pairsOf «pairs_held» (now pairs)) ≡ true) ⌝ }
     ensures { λ r. ⌜ r ≡ replyOf (first (defineStand (groupsOf «groups_held» (now (groups .entry))) (pairsOf «pairs_held» (now (pairs .entry)))
-        asker (groupKeys named) (radioKeys radios) room)) ⌝ }
+        asker (groupKeys named) (ownersHeld come) (radioKeys radios) room)) ⌝ }
 {
     if any_group(groups, groups_held, named, asker, Standing::Taken) {
         return Reply::Refused(Refusal::NotOwner);
+    }
+    if any_crowded(groups, groups_held, named, come) {
+        return Reply::Refused(Refusal::TooManyOwners);
     }
     let group_total = groups_held + new_groups(groups, groups_held, named);
     let pair_total = pairs_held + new_pairs(pairs, pairs_held, named, radios);
@@ -194,6 +200,7 @@ pub fn define_fault(
         pair_count as usize,
         radio_key(asker),
         parts.named,
+        parts.owners,
         parts.radios,
         room,
     )

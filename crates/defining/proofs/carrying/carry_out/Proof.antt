@@ -4,11 +4,11 @@ use lib.ListN.{length}
 use native.Mathlib.Omega.{arith}
 use Rattle.rules.specs.Named.{maxNumbers}
 use Rattle.rules.specs.Lists.{inOrder}
-use Rattle.order.specs.Keys.{groupKeys, radioKeys}
+use Rattle.order.specs.Keys.{groupKeys, radioKeys, ownersHeld}
 use Rattle.order.proofs.KeyLaws.{few-groups, group-keys, radio-keys}
 use Rattle.store.specs.Storage.{Contents, contents}
 use Rattle.store.proofs.FormLaws.{groups-rise, pairs-rise}
-use Rattle.defining.proofs.Carried.{sorted-rises, groups-taken, pairs-taken, carried-laid}
+use Rattle.defining.proofs.Carried.{sorted-rises, groups-grow, groups-taken, pairs-taken, carried-laid}
 use borrow.Author.Needs.{needs}
 use Rattle.defining.proofs.carrying.carry_out.Statement.{statement}
 use Rattle.defining.proofs.carrying.carry_out.Tie as tie
@@ -62,9 +62,10 @@ make-groups-requires c κs =
     let s = entry g in
     let a = s .args in
     let r = inOrder (radioKeys (a .radios)) in (
-      groups-taken (found s) (a .keeps) (a .order) (groupKeys (a .named)) (radioKeys (a .radios)) (a .state) (s .pre) _ r (these g) refl _ _
+      groups-taken (found s) (a .order) (ownersHeld (a .come)) (groupKeys (a .named)) (radioKeys (a .radios)) (a .state) (s .pre) _ r (these g) refl _ _
           (g .before .before .before .new-groups .ensures .0) (g .before .new-pairs .ensures .0),
-      s .pre .fine,
+      groups-grow (found s) (a .order) (ownersHeld (a .come)) (groupKeys (a .named)) (radioKeys (a .radios)) (a .state) (s .pre) _ r (these g) refl _ _
+          (g .before .before .before .new-groups .ensures .0) (g .before .new-pairs .ensures .0),
       s .pre .row,
       rw (these g) (sorted-rises (groupKeys (a .named)) (s .pre .groupsOnce)),
     )
@@ -77,7 +78,7 @@ set-all-requires c κs =
     let g = rising c in
     let s = entry g in
     let a = s .args in (
-      pairs-taken (found s) (a .keeps) (a .order) (groupKeys (a .named)) (radioKeys (a .radios)) (a .state) (s .pre) _ _ (these g) (those c) _ _
+      pairs-taken (found s) (a .order) (ownersHeld (a .come)) (groupKeys (a .named)) (radioKeys (a .radios)) (a .state) (s .pre) _ _ (these g) (those c) _ _
           (g .before .before .before .new-groups .ensures .0) (g .before .new-pairs .ensures .0),
       rw (these g) (sorted-rises (groupKeys (a .named)) (s .pre .groupsOnce)),
       rw (those c) (sorted-rises (radioKeys (a .radios)) (s .pre .radiosOnce)),
@@ -113,7 +114,7 @@ returns c =
     let g = rising r in
     let s = entry g in
     let a = s .args in
-    carried-laid (found s) (a .keeps) (a .order) (groupKeys (a .named)) (radioKeys (a .radios)) (a .state) (s .pre) _ _ (these g) (those r) _ _
+    carried-laid (found s) (a .order) (ownersHeld (a .come)) (groupKeys (a .named)) (radioKeys (a .radios)) (a .state) (s .pre) _ _ (these g) (those r) _ _
     (g .before .before .before .new-groups .ensures .0) (g .before .new-pairs .ensures .0) _ _
     (r .before .before .before .make-groups .ensures) (c .before .set-all .ensures)
 

@@ -6,7 +6,9 @@ use lib.ListN.{length}
 use Rattle.order.specs.Walks.{moved}
 use Rattle.order.proofs.Moves.{moved-length}
 use Rattle.store.specs.declared.Place.{Place}
+use Rattle.order.specs.Keys.{ownersHeld}
 use Rattle.defining.specs.Groups.{rowFor}
+use Rattle.defining.specs.Joining.{Fits}
 use Rattle.defining.specs.Putting.{Opens}
 use Rattle.defining.proofs.Downward.{row-put}
 use borrow.Author.Needs.{needs}
@@ -20,7 +22,7 @@ opens : (c : tie.After-group-place) →
 opens c =
     let s = c .before .before in
     let a = s .args in
-    subst (λ (p : Place). Opens p (a .step .left) (a .step .by) (a .groups .now)) (sym (c .group-place .ensures)) (s .pre)
+    subst (λ (p : Place). Opens p (a .step .left) (a .step .by) (a .groups .now)) (sym (c .group-place .ensures)) (s .pre .0)
 
 -- the row stands behind those that are not moved
 at : (c : tie.After-behind) →
@@ -32,7 +34,12 @@ group-place-requires : tie.Need-group-place-requires
 group-place-requires c κs = search needs
 
 row-for-requires : tie.Need-row-for-requires
-row-for-requires c κs = let w = opens (c .before) in omega (arith, w .inside, w .room)
+row-for-requires c κs =
+    let s = c .before .before .before in
+    let a = s .args in
+    let w = opens (c .before) in
+    let fits = subst (λ (p : Place). Fits p (a .groups .now) (ownersHeld (a .come))) (sym (c .before .group-place .ensures)) (s .pre .1) in
+    (omega (arith, w .inside, w .room), fits)
 
 behind-requires : tie.Need-behind-requires
 behind-requires c κs = let w = opens (c .before .before) in omega (arith, w .inside, w .few)
@@ -83,7 +90,7 @@ returns c =
     let place = b .before .before .before in
     let a = place .before .before .args in
     row-put _ _ (place .group-place .ensures) (a .step .left) (a .step .by) _ (b .behind .ensures)
-    (λ (p : Place). rowFor p (a .group .0) (a .keeps) (a .order) (a .groups .now)) _ (b .before .row-for .ensures) (a .groups .now) _
+    (λ (p : Place). rowFor p (a .group .0) (a .order) (ownersHeld (a .come)) (a .groups .now)) _ (b .before .row-for .ensures) (a .groups .now) _
     (c .before .before .move-groups .ensures) _ (c .step-after .ensures)
 
 pub make-group-spec : {M : Type 1} → statement M

@@ -1,7 +1,12 @@
 -- `defining::row_for` meets its contract.
+use mathlib.Core.Path.{ap, _∙_}
 use Prim.Native.Nat.{_<_}
+use mathlib.Core.List.{[]}
 use native.Mathlib.Omega.{arith}
-use lib.ListN.{length}
+use lib.ListN.{length, getD}
+use Rattle.order.specs.Keys.{ownersHeld}
+use Rattle.order.proofs.KeyLaws.{owners-held}
+use Rattle.making.specs.Row.{madeRow}
 use borrow.Author.Needs.{needs}
 use Rattle.defining.proofs.grouping.row_for.Statement.{statement}
 use Rattle.defining.proofs.grouping.row_for.Tie as tie
@@ -11,13 +16,16 @@ enum-known-place c = search needs
 
 -- the row that stands at its place is lent
 inside : (c : tie.After-known-told) → c .before .place .given .0 .0 < length (c .before .before .before .args .groups .now)
-inside c = let p = rw (c .before .place .given .1) at (c .before .before .before .pre) in omega arith
+inside c = let p = rw (c .before .place .given .1) at (c .before .before .before .pre .0) in omega arith
 
-mul-made-row : tie.Need-mul-made-row
-mul-made-row c = let p = inside c in search needs
+mul-old : tie.Need-mul-old
+mul-old c = let p = inside c in search needs
 
-shared-slice-copy-out-made-row : tie.Need-shared-slice-copy-out-made-row
-shared-slice-copy-out-made-row c = inside c
+shared-slice-copy-out-old : tie.Need-shared-slice-copy-out-old
+shared-slice-copy-out-old c = inside c
+
+joined-requires : tie.Need-joined-requires
+joined-requires c κs = rw (c .before .before .place .given .1) at (c .before .before .before .before .pre .1)
 
 made-row-requires : tie.Need-made-row-requires
 made-row-requires c κs = search needs
@@ -29,7 +37,12 @@ made-row-requires-2 : tie.Need-made-row-requires-2
 made-row-requires-2 c κs = search needs
 
 returns : tie.Need-returns
-returns c = rw (c .before .before .before .place .given .1) (c .made-row .ensures)
+returns c =
+    let place = c .before .before .before .before in
+    let a = place .before .before .args in
+    let old = getD (a .groups .now) (place .place .given .0 .0) [] in
+    let owners = ap ownersHeld (c .before .joined .ensures) ∙ owners-held _ in
+    rw (place .place .given .1) (c .made-row .ensures ∙ ap (madeRow (a .group .0) (a .order) old) owners)
 
 returns-2 : tie.Need-returns-2
 returns-2 c = rw (c .before .enum-told .given .1) (c .made-row2 .ensures)
@@ -39,8 +52,9 @@ row-for-spec =
     tie.close
     (tie.spec
     enum-known-place
-    mul-made-row
-    shared-slice-copy-out-made-row
+    mul-old
+    shared-slice-copy-out-old
+    joined-requires
     made-row-requires
     enum-told
     made-row-requires-2

@@ -1,32 +1,21 @@
 -- `defining::parts_of` meets its contract: the lists read are those of the order.
-use mathlib.Core.Path.{_≡_, refl, ap, _∙_}
-use mathlib.Core.Bool.{Bool, true, false, cond, not}
+use mathlib.Core.Path.{ap, _∙_}
 use mathlib.Core.List.{_∷_}
-use mathlib.Core.Option.{Option, none, some}
-use Rattle.rules.specs.Lists.{present, rising}
+use mathlib.Core.Option.{Option}
+use Rattle.rules.specs.Lists.{rising}
 use Rattle.rules.specs.Number.{Numbers, key}
 use Rattle.rules.specs.Named.{numbersIn, maxNumbers, maxListedOwners}
 use Rattle.rules.specs.Recorded.{defineOf}
 use Rattle.order.specs.Numbers.{radioNumber}
 use Rattle.order.specs.Keys.{fitting, groupsAs, radiosAs, ownersAs}
 use Rattle.order.specs.Lists.{listOf}
-use Rattle.order.specs.Recorded.{ownerList}
 use Rattle.order.specs.declared.DefineLists.{DefineLists}
-use Rattle.order.specs.declared.Listed.{Listed}
 use Rattle.order.specs.declared.Owners.{Owners}
 use Rattle.order.proofs.Recorded.{lists-said, owners-said, radios-said}
 use Rattle.defining.specs.Parts.{faultsIn}
 use borrow.Author.Needs.{needs}
 use Rattle.defining.proofs.parts.parts_of.Statement.{statement}
 use Rattle.defining.proofs.parts.parts_of.Tie as tie
-
--- a list is there where it is given
-given-present : (l : Listed) → l .given ≡ present (listOf l)
-given-present l = go (l .given) _
-  where
-    go : {A : Type 0} (b : Bool) (x : A) → b ≡ present (cond b (some x) none)
-    go true x = refl
-    go false x = refl
 
 lists-of-requires : tie.Need-lists-of-requires
 lists-of-requires c κs = search needs
@@ -46,9 +35,9 @@ faults-of-requires c κs = search needs
 returns : tie.Need-returns
 unfolding defineOf
 returns c =
-    let o = c .before .before in
+    let o = c .before in
     let g = o .before .before in
-    let l = g .before .before in
+    let l = g .before in
     let a = l .before .args in
     let lists = l .lists-of .ensures in
     let gs = lists-said (radioNumber (a .asker)) (a .place) in
@@ -62,8 +51,6 @@ returns c =
     ∙ ap (λ (n : Option Numbers). radiosAs (fitting maxNumbers (numbersIn (a .asker .1) n))) rs in
     let given : Option Numbers → Owners = λ n. ownersAs (rising (key (radioNumber (a .asker)) ∷ fitting maxListedOwners (numbersIn (a .asker .1) n))) in
     let owners = o .owners-in .ensures ∙ ap (λ (d : DefineLists). given (listOf (d .owners))) lists ∙ ap given os in
-    let keeps = ap (λ (d : DefineLists). not (d .owners .given)) lists ∙ ap not (given-present (ownerList (a .place)))
-    ∙ ap (λ (n : Option Numbers). not (present n)) os in
     let faults = c .faults-of .ensures
     ∙ ap (λ (d : DefineLists). faultsIn (a .asker .1) (listOf (d .groups)) (listOf (d .owners)) (listOf (d .radios))) lists
     ∙ (λ i. faultsIn (a .asker .1) (gs i) (os i) (rs i)) in
@@ -71,7 +58,6 @@ returns c =
       named = named i;
       radios = radios i;
       owners = owners i;
-      keeps = keeps i;
       faults = faults i;
     }
 
