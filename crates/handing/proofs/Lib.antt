@@ -1,0 +1,3 @@
+-- Laws of a handover.
+pub mod Handing
+pub mod Unique

@@ -1,0 +1,2 @@
+-- The definitions that the contracts of a handover cite.
+pub mod Tests
