@@ -5,6 +5,7 @@ use mathlib.Core.List.{List, [], _∷_, map}
 use mathlib.Core.Option.{Option, none, some}
 use Prim.Native.Nat.{ℕ}
 use lib.ListN.{length, replicate, length-replicate}
+use lib.Seq.{set-getD}
 use denote.Ref.{RefT}
 use Rattle.refusal.specs.declared.Refusal.{Refusal}
 use Rattle.refusal.specs.declared.Refusal.the-variants.{NotWritten}
@@ -18,21 +19,26 @@ use Rattle.rules.specs.Order as order
 use Rattle.rules.specs.Refusals.{maxGroups, maxPairs}
 use Rattle.rows.specs.Layout.{headWords, groupWords, pairWords, orderWords}
 use Rattle.rules.specs.History.{_then_}
-use Rattle.order.specs.Steps.{answerStep, defineStep, deleteStep}
+use Rattle.rules.proofs.Walks.{alter-all}
+use Rattle.rules.proofs.ByNumber.{by-number}
+use Rattle.rules.proofs.Written.{handover-count}
+use Rattle.order.specs.Steps.{answerStep, handoverOf, handoverStep, defineStep, deleteStep}
 use Rattle.order.specs.Walks.{onto}
-use Rattle.store.specs.Storage.{Rows, Contents, contents, pairRow, pairsOf, pairCount, placing, ledgerOf, laid}
+use Rattle.store.specs.Storage.{Rows, Contents, contents, pairRow, pairsOf, groupCount, pairCount, placing, ledgerOf, laid}
 use Rattle.store.specs.Form.{roomy, Sound}
 use Rattle.replies.specs.Orders.{replyOf, verdict, contentsAfter}
 use Rattle.replies.specs.Sending.{orderRow, sentOn, sentReply}
 use Rattle.order.specs.declared.Gtsi.{Gtsi}
 use Rattle.order.specs.declared.Itsi.{Itsi}
+use Rattle.order.specs.declared.Identity.{Identity}
 use Rattle.order.specs.declared.Numbers.{Numbers}
 use Rattle.order.specs.declared.Listed.{Listed}
 use Rattle.replies.specs.declared.Reply.the-variants.{Done}
-use Rattle.replies.proofs.Orders.{refused-stays, taken-after}
+use Rattle.replies.proofs.Orders.{refused-stays, taken-after, head-counts, count-groups, count-pairs, pairs-stay}
+use Rattle.making.proofs.Standing.{formed}
 use Rattle.answering.proofs.Answered.{turned-laid, ticked-laid}
-use Rattle.demand.specs.Calls.{Storage, Empties, Ticks, Answers, Defines, Deletes}
-use Rattle.demand.specs.Runs.{Kept, begun, defined, deleted, answered, ticked}
+use Rattle.demand.specs.Calls.{Storage, Empties, Ticks, Answers, HandsOver, Defines, Deletes}
+use Rattle.demand.specs.Runs.{Kept, begun, defined, deleted, answered, handedOver, ticked}
 use Rattle.demand.specs.Asked as asked
 use Rattle.demand.specs.Asked.{Asked, historyOf, Reached}
 use Rattle.demand.proofs.Runs.{run-stands}
@@ -110,6 +116,44 @@ answers radio group result c w =
       ends = e;
     }
 
+-- head and pairs stay through a handover
+handover-stays : (asker : Itsi) (group : Identity) (owners : Numbers) (c : Contents) → Sound c
+    → let s = handoverStep asker group owners in (contentsAfter c s .head ≡ c .head) × (contentsAfter c s .pairs ≡ c .pairs)
+handover-stays asker group owners c w = go (refused placing (ledgerOf c) s) refl
+  where
+    s : order.Step
+    s = handoverStep asker group owners
+
+    go : (o : Option Refusal) → refused placing (ledgerOf c) s ≡ o → (contentsAfter c s .head ≡ c .head) × (contentsAfter c s .pairs ≡ c .pairs)
+    go none e =
+        let after = taken-after c s (w .form) e .1 in
+        let groups = handover-count placing by-number (ledgerOf c) (formed c w) (handoverOf asker group owners) e ∙ count-groups c w in (
+          ap (λ (x : Contents). x .head) after
+              ∙ (λ i. onto (groups i ∷ (ap length (alter-all (ledgerOf c .pairs)) ∙ count-pairs c w) i ∷ []) (c .head))
+              ∙ sym (head-counts (c .head) (groupCount c) (pairCount c) (w .head) refl) ∙ set-getD (c .head) 1 0,
+          ap (λ (x : Contents). x .pairs) after
+              ∙ ap (λ (l : List (Pair × mark.Mark)). onto (map pairRow l) (c .pairs)) (alter-all (ledgerOf c .pairs)) ∙ pairs-stay c w,
+        )
+    go (some r) e =
+        let stays = sym (refused-stays c s r (λ i. replyOf (cond (sym (w .form) i) (sym e i) (some NotWritten)))) in
+        (ap (λ (x : Contents). x .head) stays, ap (λ (x : Contents). x .pairs) stays)
+
+handsOver : (asker : Itsi) (group : Identity) (owners : Numbers) (c : Contents) → Sound c
+    → let s = handoverStep asker group owners in HandsOver asker group owners c (contentsAfter c s) (replyOf (verdict c s))
+handsOver asker group owners c w =
+    let s = handoverStep asker group owners in
+    let stays = handover-stays asker group owners c w in
+    let e : contents (c .head) (contentsAfter c s .groups) (c .pairs) ≡ contentsAfter c s =
+    λ i. contents (sym (stays .0) i) (contentsAfter c s .groups) (sym (stays .1) i) in
+    record {
+      lifetimes = ([], ([], ([], tt)));
+      lent = lends c;
+      left = (lend (c .head), (lend (contentsAfter c s .groups), (lend (c .pairs), (asker, (group, (owners, tt))))));
+      starts = refl;
+      meets = record { replies = refl; leaves = e };
+      ends = e;
+    }
+
 ticks : (c : Contents) → Sound c → Ticks c (contentsAfter c order.tick) (replyOf (verdict c order.tick))
 ticks c w =
     let rows = onto (map pairRow (alter (λ (k : Pair) m. some (mark.ticked m)) (pairsOf (pairCount c) (c .pairs)))) (c .pairs) in
@@ -170,6 +214,12 @@ reached (asked.answer radio group result ∷ l) =
       left = contentsAfter (r .left) (answerStep radio group result);
       kept = answered (r .kept)
           (answers radio group result (r .left) (run-stands (r .kept) .sound));
+    }
+reached (asked.handover asker group owners ∷ l) =
+    let r = reached l in
+    record {
+      left = contentsAfter (r .left) (handoverStep asker group owners);
+      kept = handedOver (r .kept) (handsOver asker group owners (r .left) (run-stands (r .kept) .sound));
     }
 reached (asked.tick ∷ l) =
     let r = reached l in

@@ -15,7 +15,7 @@ use Rattle.rules.proofs.Agree.{refusal-agree, sent-agree, list-agree, show-agre
 use Rattle.rules.proofs.Alike.{as-before}
 use Rattle.rules.proofs.Stretches.{run-in-stretches}
 use Rattle.order.specs.Numbers.{radioNumber, askedNumber}
-use Rattle.order.specs.Steps.{answerStep, defineStep, deleteStep}
+use Rattle.order.specs.Steps.{answerStep, handoverStep, defineStep, deleteStep}
 use Rattle.order.specs.Walks.{onto}
 use Rattle.store.specs.Storage.{Rows, Contents}
 use Rattle.replies.specs.Orders.{replyOf}
@@ -55,6 +55,7 @@ before {c} {h} k =
       deletes = λ {asker} {named} {remove} {deassign} {radios} {room} {rows} {c′} {reply} e.
           sent-before h (deleteStep asker named remove deassign radios (length room)) room rows reply (f .deletes e);
       answers = λ {radio} {group} {result} e. f .answers e ∙ reply-before h (answerStep radio group result);
+      handsOver = λ {asker} {group} {owners} e. f .handsOver e ∙ reply-before h (handoverStep asker group owners);
       ticks = λ e. f .ticks e ∙ reply-before h tick;
       lists = λ {asker} {asked} {room} {listed} e.
           let l = sym (list-agree byArrival by-arrival h (radioNumber asker) (askedNumber asker asked) (length room)) in (

@@ -7,7 +7,7 @@ use lib.ListN.{length}
 use Rattle.layout.specs.declared.Record.{Record}
 use Rattle.rules.specs.Order.{Step, tick}
 use Rattle.order.specs.Numbers.{askedGroup}
-use Rattle.order.specs.Steps.{answerStep, defineStep, deleteStep}
+use Rattle.order.specs.Steps.{answerStep, handoverStep, defineStep, deleteStep}
 use Rattle.order.specs.Walks.{onto}
 use Rattle.store.specs.Storage.{Rows, Contents}
 use Rattle.replies.specs.Orders.{replyOf, verdict, contentsAfter, emptyVerdict, emptied, Begins, Replies}
@@ -16,6 +16,7 @@ use Rattle.replies.specs.Listing.{entryRow, listOn, membersOf}
 use Rattle.replies.specs.Showing.{showOn, shownOf}
 use Rattle.order.specs.declared.Gtsi.{Gtsi}
 use Rattle.order.specs.declared.Itsi.{Itsi}
+use Rattle.order.specs.declared.Identity.{Identity}
 use Rattle.order.specs.declared.GroupAsked.{GroupAsked}
 use Rattle.order.specs.declared.Numbers.{Numbers}
 use Rattle.order.specs.declared.Listed.{Listed}
@@ -23,7 +24,7 @@ use Rattle.replies.specs.declared.Reply.{Reply}
 use Rattle.replies.specs.declared.Sent.{Sent}
 use Rattle.replies.specs.declared.Members.{Members}
 use Rattle.replies.specs.declared.Shown.{Shown}
-use Rattle.demand.specs.Calls.{Empties, Ticks, Answers, Defines, Deletes, Lists, Shows}
+use Rattle.demand.specs.Calls.{Empties, Ticks, Answers, HandsOver, Defines, Deletes, Lists, Shows}
 
 module _ {c c′ : Contents} where
   pub empty-says : {reply : Reply} → Empties c c′ reply → Begins c c′ reply
@@ -43,6 +44,13 @@ module _ {c c′ : Contents} where
   answer-says {radio} {group} {result} e = record {
     replies = e .meets .replies ∙ (λ i. replyOf (verdict (e .starts i) (answerStep radio group result)));
     leaves = sym (e .ends) ∙ e .meets .leaves ∙ (λ i. contentsAfter (e .starts i) (answerStep radio group result));
+  }
+
+  pub handover-says : {asker : Itsi} {group : Identity} {owners : Numbers} {reply : Reply} → HandsOver asker group owners c c′ reply
+      → Replies (handoverStep asker group owners) c c′ reply
+  handover-says {asker} {group} {owners} e = record {
+    replies = e .meets .replies ∙ (λ i. replyOf (verdict (e .starts i) (handoverStep asker group owners)));
+    leaves = sym (e .ends) ∙ e .meets .leaves ∙ (λ i. contentsAfter (e .starts i) (handoverStep asker group owners));
   }
 
   pub define-says : {asker : Itsi} {values : Record} {room sent : Rows} {reply : Sent}

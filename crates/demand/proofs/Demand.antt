@@ -41,7 +41,7 @@ use Rattle.replies.specs.declared.Shown.{Shown}
 use Rattle.demand.specs.Calls.{Lists, Shows}
 use Rattle.demand.specs.Runs.{Kept}
 use Rattle.demand.specs.Demand.{stateIn, ListsExactly, shownOwner, ShowsExactly, Faithful}
-use Rattle.demand.proofs.Calls.{tick-says, answer-says, define-says, delete-says, list-says, show-says}
+use Rattle.demand.proofs.Calls.{tick-says, answer-says, handover-says, define-says, delete-says, list-says, show-says}
 use Rattle.demand.proofs.Parts.{state-told, owner-told}
 use Rattle.demand.proofs.Runs.{Stands, run-stands}
 
@@ -139,6 +139,7 @@ demand {c} {h} run =
       defines = λ e. sends-alike k (define-says e);
       deletes = λ e. sends-alike k (delete-says e);
       answers = λ e. replies-alike k (answer-says e);
+      handsOver = λ e. replies-alike k (handover-says e);
       ticks = λ e. replies-alike k (tick-says e);
       lists = λ {asker} {asked} {room} e. let s = lists-alike k asker asked e in
           let l = list-agree placing by-number h (radioNumber asker) (askedNumber asker asked) (length room) in

@@ -7,6 +7,7 @@ pub mod Demand
 pub mod Never18
 pub mod Anew
 pub mod Visitor
+pub mod Ownership
 pub mod Asked
 pub mod Before
 pub mod Spelled

@@ -1,4 +1,4 @@
--- No call of a run is refused with 18: the history's refusals are 10 to 17.
+-- No call of a run is refused with 18: it is none of the history's refusals.
 use mathlib.Core.Path.{_≡_, refl, sym, ap, _∙_}
 use mathlib.Core.Bool.{Bool, true, false, cond}
 use mathlib.Core.List.{List, [], _∷_}
@@ -12,13 +12,13 @@ use Rattle.refusal.specs.declared.Refusal.{Refusal}
 use Rattle.refusal.specs.declared.Refusal.the-variants.{NotWritten}
 use Rattle.rules.specs.Lists.{any}
 use Rattle.rules.specs.Number.{Number, key}
-use Rattle.rules.specs.Order.{Step, define, delete, answer, tick}
+use Rattle.rules.specs.Order.{Step, define, delete, answer, handover, tick}
 use Rattle.rules.specs.World.{World, Tally}
 use Rattle.rules.specs.Refusals.{first, tests, refusal, showRefusal, askTests, listRefusal, listTests}
 use Rattle.rules.specs.Effect.{effect}
 use Rattle.rules.specs.History.{History, _then_, world, namedIn, tallyIn, radiosIn, refusalIn, sentIn, listIn, showIn}
 use Rattle.order.specs.Numbers.{radioNumber, askedNumber}
-use Rattle.order.specs.Steps.{answerStep, defineStep, deleteStep}
+use Rattle.order.specs.Steps.{answerStep, handoverStep, defineStep, deleteStep}
 use Rattle.store.specs.Storage.{Contents}
 use Rattle.store.specs.Form.{roomy}
 use Rattle.replies.specs.Orders.{emptyVerdict}
@@ -53,6 +53,7 @@ step-not18 : (w : World) (t : Tally) (s : Step) → refusal w t s ≡ some NotWr
 step-not18 w t (define o room) = first-not18 (tests w t (define o room)) refl
 step-not18 w t (delete o room) = first-not18 (tests w t (delete o room)) refl
 step-not18 w t (answer a) = first-not18 (tests w t (answer a)) refl
+step-not18 w t (handover o) = first-not18 (tests w t (handover o)) refl
 step-not18 w t tick = first-not18 (tests w t tick) refl
 
 list-not18 : (w : World) (asker g : Number) (radios : List ℕ) (room : ℕ) → listRefusal w asker g radios room ≡ some NotWritten → ⊥
@@ -87,6 +88,8 @@ never18 {c} {h} k =
           in-history h s (sent-some (refusalIn h s) (length (sentIn h s)) NotWritten (f .deletes e .0));
       answers = λ {radio} {group} {result} e. let s = answerStep radio group result in
           in-history h s (reply-some (refusalIn h s) NotWritten (f .answers e));
+      handsOver = λ {asker} {group} {owners} e. let s = handoverStep asker group owners in
+          in-history h s (reply-some (refusalIn h s) NotWritten (f .handsOver e));
       ticks = λ e. in-history h tick (reply-some (refusalIn h tick) NotWritten (f .ticks e));
       lists = λ {asker} {asked} {room} e. let g = askedNumber asker asked in let l = listIn h (radioNumber asker) g (length room) in
           list-not18 (world h) (radioNumber asker) g (radiosIn h (key g)) (length room)

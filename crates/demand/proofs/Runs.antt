@@ -24,8 +24,8 @@ use Rattle.replies.specs.declared.Reply.{Reply}
 use Rattle.replies.specs.declared.Sent.{Sent}
 use Rattle.replies.specs.declared.Reply.the-variants.{Done}
 use Rattle.demand.specs.Calls.{Empties}
-use Rattle.demand.specs.Runs.{Kept, begun, defined, deleted, answered, ticked}
-use Rattle.demand.proofs.Calls.{empty-says, tick-says, answer-says, define-says, delete-says}
+use Rattle.demand.specs.Runs.{Kept, begun, defined, deleted, answered, handedOver, ticked}
+use Rattle.demand.proofs.Calls.{empty-says, tick-says, answer-says, handover-says, define-says, delete-says}
 use Rattle.demand.proofs.Back.{back, laid-sound, form-parts}
 
 -- the contents are in the written form, and hold this ledger
@@ -92,4 +92,5 @@ run-stands (begun e) = begins e
 run-stands (defined k e) = sent-out (run-stands k) (define-says e)
 run-stands (deleted k e) = sent-out (run-stands k) (delete-says e)
 run-stands (answered k e) = replied (run-stands k) (answer-says e)
+run-stands (handedOver k e) = replied (run-stands k) (handover-says e)
 run-stands (ticked k e) = replied (run-stands k) (tick-says e)

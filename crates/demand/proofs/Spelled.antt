@@ -1,5 +1,5 @@
 -- An order with a range does, call for call, what the same order with the list of its numbers does.
-use mathlib.Core.Path.{_≡_, sym, _∙_}
+use mathlib.Core.Path.{_≡_, sym, ap, _∙_}
 use mathlib.Core.Bool.{cond}
 use mathlib.Core.List.{[], map}
 use mathlib.Core.Option.{some}
@@ -10,15 +10,15 @@ use Rattle.rules.specs.Order.{Step}
 use Rattle.rules.specs.Refusals.{accepted}
 use Rattle.rules.specs.Spelled as law
 use Rattle.rules.proofs.Spelled.{as-listed}
-use Rattle.order.specs.Steps.{defineStep, deleteStep}
+use Rattle.order.specs.Steps.{handoverStep, defineStep, deleteStep}
 use Rattle.order.specs.Walks.{onto}
 use Rattle.store.specs.Storage.{Rows, Contents, placing, ledgerOf, laid}
 use Rattle.store.specs.Form.{isWritten}
-use Rattle.replies.specs.Orders.{verdict, contentsAfter}
+use Rattle.replies.specs.Orders.{replyOf, verdict, contentsAfter}
 use Rattle.replies.specs.Sending.{orderRow, sentOn, sentReply, Sends}
 use Rattle.replies.specs.declared.Sent.{Sent}
 use Rattle.demand.specs.Spelled.{SameOutcome, ReadAsListed}
-use Rattle.demand.proofs.Calls.{define-says, delete-says}
+use Rattle.demand.proofs.Calls.{handover-says, define-says, delete-says}
 
 module _ (c : Contents) (s s′ : Step) (a : law.AsListed s s′) where
   abbrev one : law.AsOne placing (ledgerOf c) s s′
@@ -52,4 +52,10 @@ range-as-listed c room = record {
       same-call c (defineStep asker (values .place)) (defineStep asker (values′ .place)) room a (define-says k) (define-says k′);
   deletes = λ {asker} {named} {named′} {remove} {deassign} {radios} {radios′} a k k′.
       same-call c (deleteStep asker named remove deassign radios) (deleteStep asker named′ remove deassign radios′) room a (delete-says k) (delete-says k′);
+  handsOver = λ {asker} {group} {owners} {owners′} a e e′.
+      let k = handover-says e in
+      let k′ = handover-says e′ in
+      let one = handoverStep asker group owners in
+      let other = handoverStep asker group owners′ in
+      (k .replies ∙ ap replyOf (same-verdict c one other a) ∙ sym (k′ .replies), k .leaves ∙ same-contents c one other a ∙ sym (k′ .leaves));
 }

@@ -14,10 +14,11 @@ use Rattle.rules.specs.Steps.{refused, sent}
 use Rattle.rules.specs.History.{History}
 use Rattle.rules.specs.Run.{run}
 use Rattle.order.specs.Numbers.{radioNumber, askedNumber}
-use Rattle.order.specs.Steps.{answerStep, defineStep, deleteStep}
+use Rattle.order.specs.Steps.{answerStep, handoverStep, defineStep, deleteStep}
 use Rattle.order.specs.Walks.{onto}
 use Rattle.order.specs.declared.Gtsi.{Gtsi}
 use Rattle.order.specs.declared.Itsi.{Itsi}
+use Rattle.order.specs.declared.Identity.{Identity}
 use Rattle.order.specs.declared.GroupAsked.{GroupAsked}
 use Rattle.order.specs.declared.Numbers.{Numbers}
 use Rattle.order.specs.declared.Listed.{Listed}
@@ -30,7 +31,7 @@ use Rattle.replies.specs.declared.Reply.{Reply}
 use Rattle.replies.specs.declared.Sent.{Sent}
 use Rattle.replies.specs.declared.Members.{Members}
 use Rattle.replies.specs.declared.Shown.{Shown}
-use Rattle.demand.specs.Calls.{Ticks, Answers, Defines, Deletes, Lists, Shows}
+use Rattle.demand.specs.Calls.{Ticks, Answers, HandsOver, Defines, Deletes, Lists, Shows}
 
 -- the ledger in the old layout
 abbrev pub old : History → Ledger
@@ -54,6 +55,8 @@ pub record AsBefore (c : Contents) (h : History) : Type 0 where
       (reply ≡ sentReply (refused byArrival (old h) s) (length (sent byArrival (old h) s))) × (rows ≡ onto (map orderRow (sent byArrival (old h) s)) room)
   pub answers : {radio : Itsi} {group : Gtsi} {result : ℕ} {c′ : Contents} {reply : Reply}
       → Answers radio group result c c′ reply → reply ≡ replyOf (refused byArrival (old h) (answerStep radio group result))
+  pub handsOver : {asker : Itsi} {group : Identity} {owners : Numbers} {c′ : Contents} {reply : Reply}
+      → HandsOver asker group owners c c′ reply → reply ≡ replyOf (refused byArrival (old h) (handoverStep asker group owners))
   pub ticks : {c′ : Contents} {reply : Reply} → Ticks c c′ reply → reply ≡ replyOf (refused byArrival (old h) tick)
   pub lists : {asker : Itsi} {asked : GroupAsked} {room listed : Rows} {reply : Members}
       → Lists asker asked room listed c reply

@@ -14,6 +14,7 @@ use Rattle.layout.specs.declared.Record.{Record}
 use Rattle.store.specs.Storage.{Rows, Contents, contents}
 use Rattle.order.specs.declared.Gtsi.{Gtsi}
 use Rattle.order.specs.declared.Itsi.{Itsi}
+use Rattle.order.specs.declared.Identity.{Identity}
 use Rattle.order.specs.declared.GroupAsked.{GroupAsked}
 use Rattle.order.specs.declared.Numbers.{Numbers}
 use Rattle.order.specs.declared.Listed.{Listed}
@@ -27,6 +28,8 @@ use Rattle.answering.proofs.tick.Kinds as tick-kinds
 use Rattle.answering.proofs.tick.Reads as tick
 use Rattle.answering.proofs.answer.Kinds as answer-kinds
 use Rattle.answering.proofs.answer.Reads as answer
+use Rattle.handing.proofs.handover.Kinds as handover-kinds
+use Rattle.handing.proofs.handover.Reads as handover
 use Rattle.defining.proofs.define.Kinds as define-kinds
 use Rattle.defining.proofs.define.Reads as define
 use Rattle.deleting.proofs.delete.Kinds as delete-kinds
@@ -70,6 +73,14 @@ pub record Answers (radio : Itsi) (group : Gtsi) (result : ℕ) (before after : 
   pub starts : held lent ≡ before
   pub meets : answer.Post lifetimes (lent .head, (lent .groups, (lent .pairs, (radio, (group, (result, tt)))))) reply left
   pub ends : contents (now (left .0)) (now (lent .groups)) (now (left .1 .1 .0)) ≡ after
+
+pub record HandsOver (asker : Itsi) (group : Identity) (owners : Numbers) (before after : Contents) (reply : Reply) : Type 0 where
+  pub lifetimes : Lfts 3
+  pub lent : Storage
+  pub left : AtExit (endedOf 3 handover-kinds.ps handover-kinds.r) lifetimes
+  pub starts : held lent ≡ before
+  pub meets : handover.Post lifetimes (lent .head, (lent .groups, (lent .pairs, (asker, (group, (owners, tt)))))) reply left
+  pub ends : contents (now (lent .head)) (now (left .1 .0)) (now (lent .pairs)) ≡ after
 
 pub record Defines (asker : Itsi) (values : Record) (room sent : Rows) (before after : Contents) (reply : Sent) : Type 0 where
   pub lifetimes : Lfts 4

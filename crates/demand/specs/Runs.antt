@@ -6,16 +6,17 @@ use lib.ListN.{length}
 use Rattle.layout.specs.declared.Record.{Record}
 use Rattle.rules.specs.Order.{tick}
 use Rattle.rules.specs.History.{History, start, _then_}
-use Rattle.order.specs.Steps.{answerStep, defineStep, deleteStep}
+use Rattle.order.specs.Steps.{answerStep, handoverStep, defineStep, deleteStep}
 use Rattle.store.specs.Storage.{Rows, Contents}
 use Rattle.order.specs.declared.Gtsi.{Gtsi}
 use Rattle.order.specs.declared.Itsi.{Itsi}
+use Rattle.order.specs.declared.Identity.{Identity}
 use Rattle.order.specs.declared.Numbers.{Numbers}
 use Rattle.order.specs.declared.Listed.{Listed}
 use Rattle.replies.specs.declared.Reply.{Reply}
 use Rattle.replies.specs.declared.Reply.the-variants.{Done}
 use Rattle.replies.specs.declared.Sent.{Sent}
-use Rattle.demand.specs.Calls.{Empties, Ticks, Answers, Defines, Deletes}
+use Rattle.demand.specs.Calls.{Empties, Ticks, Answers, HandsOver, Defines, Deletes}
 
 -- the contents after a run, and its history. An order stands in the history whatever its reply was
 pub data Kept : Contents → History → Type 0 where
@@ -27,5 +28,7 @@ pub data Kept : Contents → History → Type 0 where
       → Kept c′ (h then deleteStep asker named remove deassign radios (length room))
   answered : {c c′ : Contents} {h : History} {radio : Itsi} {group : Gtsi} {result : ℕ} {reply : Reply}
       → Kept c h → Answers radio group result c c′ reply → Kept c′ (h then answerStep radio group result)
+  handedOver : {c c′ : Contents} {h : History} {asker : Itsi} {group : Identity} {owners : Numbers} {reply : Reply}
+      → Kept c h → HandsOver asker group owners c c′ reply → Kept c′ (h then handoverStep asker group owners)
   ticked : {c c′ : Contents} {h : History} {reply : Reply}
       → Kept c h → Ticks c c′ reply → Kept c′ (h then tick)

@@ -5,15 +5,17 @@ use mathlib.Core.Bool.{Bool}
 use lib.ListN.{length}
 use Rattle.layout.specs.declared.Record.{Record}
 use Rattle.rules.specs.Spelled as law
-use Rattle.order.specs.Steps.{defineStep, deleteStep}
+use Rattle.order.specs.Steps.{handoverStep, defineStep, deleteStep}
 use Rattle.store.specs.Storage.{Rows, Contents}
 use Rattle.order.specs.declared.Itsi.{Itsi}
+use Rattle.order.specs.declared.Identity.{Identity}
 use Rattle.order.specs.declared.Numbers.{Numbers}
 use Rattle.order.specs.declared.Listed.{Listed}
+use Rattle.replies.specs.declared.Reply.{Reply}
 use Rattle.replies.specs.declared.Sent.{Sent}
-use Rattle.demand.specs.Calls.{Defines, Deletes}
+use Rattle.demand.specs.Calls.{HandsOver, Defines, Deletes}
 
--- what two calls came to is the same
+-- what two calls that send came to is the same
 pub record SameOutcome (reply reply′ : Sent) (after after′ : Contents) (sent sent′ : Rows) : Type 0 where
   pub replies : reply ≡ reply′
   pub leaves : after ≡ after′
@@ -29,3 +31,7 @@ pub record ReadAsListed (c : Contents) (room : Rows) : Type 0 where
       → law.AsListed (deleteStep asker named remove deassign radios (length room)) (deleteStep asker named′ remove deassign radios′ (length room))
       → Deletes asker named remove deassign radios room sent c after reply → Deletes asker named′ remove deassign radios′ room sent′ c after′ reply′
       → SameOutcome reply reply′ after after′ sent sent′
+  -- a handover sends nothing
+  pub handsOver : {asker : Itsi} {group : Identity} {owners owners′ : Numbers} {after after′ : Contents} {reply reply′ : Reply}
+      → law.AsListed (handoverStep asker group owners) (handoverStep asker group owners′)
+      → HandsOver asker group owners c after reply → HandsOver asker group owners′ c after′ reply′ → (reply ≡ reply′) × (after ≡ after′)

@@ -7,7 +7,7 @@ use denote.Triple.Clauses.{AtExit}
 use denote.Ref.{now}
 use Rattle.rules.specs.Order as law
 use Rattle.order.specs.Numbers.{askedGroup}
-use Rattle.order.specs.Steps.{answerStep, defineStep, deleteStep}
+use Rattle.order.specs.Steps.{answerStep, handoverStep, defineStep, deleteStep}
 use Rattle.store.specs.Storage.{contents}
 use Rattle.replies.specs.Orders.{Begins, Replies}
 use Rattle.replies.specs.Sending.{Sends}
@@ -19,6 +19,8 @@ use Rattle.ledger.proofs.tick.Kinds as tick-kinds
 use Rattle.ledger.proofs.tick.Reads as tick
 use Rattle.ledger.proofs.answer.Kinds as answer-kinds
 use Rattle.ledger.proofs.answer.Reads as answer
+use Rattle.ledger.proofs.handover.Kinds as handover-kinds
+use Rattle.ledger.proofs.handover.Reads as handover
 use Rattle.ledger.proofs.define.Kinds as define-kinds
 use Rattle.ledger.proofs.define.Reads as define
 use Rattle.ledger.proofs.delete.Kinds as delete-kinds
@@ -43,6 +45,13 @@ module _ (κs : Lfts 3) (a : Dens κs answer-kinds.ps) (r : resT answer-kinds.r 
       → Replies (answerStep (a .1 .1 .1 .0) (a .1 .1 .1 .1 .0) (a .1 .1 .1 .1 .1 .0)) (contents (now (a .0)) (now (a .1 .0)) (now (a .1 .1 .0)))
       (contents (now (s .0)) (now (a .1 .0)) (now (s .1 .1 .0))) r
   answer-page p = p
+
+module _ (κs : Lfts 3) (a : Dens κs handover-kinds.ps) (r : resT handover-kinds.r κs .Denot)
+    (s : AtExit (endedOf 3 handover-kinds.ps handover-kinds.r) κs) where
+  pub handover-page : handover.Post κs a r s
+      → Replies (handoverStep (a .1 .1 .1 .0) (a .1 .1 .1 .1 .0) (a .1 .1 .1 .1 .1 .0)) (contents (now (a .0)) (now (a .1 .0)) (now (a .1 .1 .0)))
+      (contents (now (a .0)) (now (s .1 .0)) (now (a .1 .1 .0))) r
+  handover-page p = p
 
 module _ (κs : Lfts 4) (a : Dens κs define-kinds.ps) (r : resT define-kinds.r κs .Denot) (s : AtExit (endedOf 4 define-kinds.ps define-kinds.r) κs) where
   pub define-page : define.Post κs a r s
