@@ -5,6 +5,7 @@ use frame::Record;
 use frame::Verdict;
 use house::Line;
 use ledger::GroupAsked;
+use ledger::Identity;
 use ledger::Itsi;
 use ledger::Listed;
 use ledger::Numbers;
@@ -13,6 +14,7 @@ use rows::lesser;
 use words::choice;
 use words::digits;
 use words::group;
+use words::identity;
 use words::mark;
 use words::number;
 use words::room;
@@ -53,6 +55,14 @@ pub struct Deletion {
     pub remove: bool,
     pub deassign: bool,
     pub radios: Listed,
+    pub next: usize,
+}
+
+// What an H says: asker, group, owners; and the place behind them.
+pub struct Handing {
+    pub asker: Itsi,
+    pub group: Identity,
+    pub owners: Numbers,
     pub next: usize,
 }
 
@@ -168,5 +178,21 @@ pub fn read_deletion(line: &[u8]) -> Deletion {
         deassign: deassign.value == 1,
         radios: listed,
         next: radios.next,
+    }
+}
+
+// H: asker, group, owners.
+pub fn read_handing(line: &[u8]) -> Handing {
+    let asker = number(line, 1);
+    let group = identity(line, asker.next);
+    let owners = series(line, group.next);
+    let named = group.identity;
+    let list = owners.list;
+    let numbers = list.numbers;
+    Handing {
+        asker: Itsi(asker.ssi, asker.extension),
+        group: named,
+        owners: numbers,
+        next: owners.next,
     }
 }

@@ -2,6 +2,7 @@
 use crate::lines::Content;
 use crate::lines::read_definition;
 use crate::lines::read_deletion;
+use crate::lines::read_handing;
 use crate::lines::read_question;
 use crate::memory::bad_line;
 use crate::memory::letter;
@@ -135,6 +136,23 @@ fn answer(
     ledger::answer(head, groups, pairs, from, of, result.value)
 }
 
+// H: asker, group, owners.
+fn hand_over(
+    line: &[u8],
+    head: &[u64; HEAD_WORDS],
+    groups: &mut [[u64; GROUP_WORDS]; MAX_GROUPS],
+    pairs: &[[u64; PAIR_WORDS]; MAX_PAIRS],
+) -> Reply {
+    let order = read_handing(line);
+    if order.next != line.len() {
+        return bad_line();
+    }
+    let asker = order.asker;
+    let group = order.group;
+    let owners = order.owners;
+    ledger::handover(head, groups, pairs, asker, group, owners)
+}
+
 // T: so many ticks; a refusal ends them.
 fn wait(
     line: &[u8],
@@ -210,6 +228,7 @@ fn act(
         b'X' => delete(line, head, groups, pairs, orders),
         b'E' => Outcome::Replied(clear(line, head, groups, pairs)),
         b'A' => Outcome::Replied(answer(line, head, groups, pairs)),
+        b'H' => Outcome::Replied(hand_over(line, head, groups, pairs)),
         b'T' => Outcome::Replied(wait(line, head, groups, pairs)),
         b'M' => Outcome::Replied(set_word(line, head, groups, pairs)),
         _ => Outcome::Replied(bad_line()),

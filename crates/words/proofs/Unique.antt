@@ -17,6 +17,8 @@ use Rattle.words.proofs.room.Kinds as room-kinds
 use Rattle.words.proofs.room.Reads as room
 use Rattle.words.proofs.choice.Kinds as choice-kinds
 use Rattle.words.proofs.choice.Reads as choice
+use Rattle.words.proofs.identity.Kinds as identity-kinds
+use Rattle.words.proofs.identity.Reads as identity
 use Rattle.words.proofs.series.Kinds as series-kinds
 use Rattle.words.proofs.series.Reads as series
 use Rattle.words.proofs.series_or_none.Kinds as series-or-none-kinds
@@ -49,6 +51,11 @@ module _ (κs : Lfts 1) (a : Dens κs room-kinds.ps) (r r′ : resT room-kinds.r
 module _ (κs : Lfts 1) (a : Dens κs choice-kinds.ps) (r r′ : resT choice-kinds.r κs .Denot) (s s′ : AtExit (endedOf 1 choice-kinds.ps choice-kinds.r) κs) where
   pub choice-unique : choice.Post κs a r s → choice.Post κs a r′ s′ → r ≡ r′
   choice-unique p q = p ∙ sym q
+
+module _ (κs : Lfts 1) (a : Dens κs identity-kinds.ps) (r r′ : resT identity-kinds.r κs .Denot)
+    (s s′ : AtExit (endedOf 1 identity-kinds.ps identity-kinds.r) κs) where
+  pub identity-unique : identity.Post κs a r s → identity.Post κs a r′ s′ → r ≡ r′
+  identity-unique p q = p ∙ sym q
 
 module _ (κs : Lfts 1) (a : Dens κs series-kinds.ps) (r r′ : resT series-kinds.r κs .Denot) (s s′ : AtExit (endedOf 1 series-kinds.ps series-kinds.r) κs) where
   pub series-unique : series.Post κs a r s → series.Post κs a r′ s′ → r ≡ r′

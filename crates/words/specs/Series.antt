@@ -26,6 +26,10 @@ namedAt line at =
     let extension = digitsAt line (markAt line (value .next) dot) 8 in
     record { identity = identityWith (form .value) (value .value) (extension .value); next = extension .next }
 
+-- a blank and an identity
+abbrev pub identityAt : List ℕ → ℕ → TakenIdentity
+identityAt line at = namedAt line (markAt line at blank)
+
 -- where the next identity starts of a list that has so many, or NOWHERE where the list has ended:
 -- the first starts at once, unless the line ends there or a blank stands there; a later one behind a comma
 unfoldable pub itemAt : List ℕ → ℕ → ℕ → ℕ

@@ -9,7 +9,7 @@ ghost use Prim.Native.Nat.{_≤_};
 ghost use mathlib.Core.Path.{_≡_};
 ghost use Rattle.house.specs.Hex.{digitValue};
 ghost use Rattle.words.specs.Words.{standsAt, markAt, bad, enoughAt, digitsAt, shortAt, wordAt, numberAt, groupAt, roomAt, choiceAt};
-ghost use Rattle.words.specs.Series.{identityWith, namedAt, itemAt, seriesAt, noList, seriesOrNoneAt};
+ghost use Rattle.words.specs.Series.{identityWith, namedAt, identityAt, itemAt, seriesAt, noList, seriesOrNoneAt};
 
 // The place behind a bad word: past the end of every line.
 const NOWHERE: usize = usize::MAX;
@@ -52,9 +52,9 @@ pub struct TakenGroup {
 }
 
 // An identity, and the place behind it.
-struct TakenIdentity {
-    identity: Identity,
-    next: usize,
+pub struct TakenIdentity {
+    pub identity: Identity,
+    pub next: usize,
 }
 
 // A list, or plainly none, and the place behind it.
@@ -246,6 +246,13 @@ fn named(line: &[u8], at: usize) -> TakenIdentity
         identity: identity_of(form.value, value.value, extension.value),
         next: extension.next,
     }
+}
+
+// A blank and an identity.
+pub fn identity(line: &[u8], at: usize) -> TakenIdentity
+    ensures { λ r. ⌜ r ≡ identityAt (now (line .entry)) at ⌝ }
+{
+    named(line, mark(line, at, b' '))
 }
 
 // Where the next identity of a list starts that has so many: the first at once unless the list ends there, a later one behind a comma.
