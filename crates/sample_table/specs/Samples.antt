@@ -1,9 +1,9 @@
 -- The samples that are proved, in one table, and what it is that each of them passes: document 01's starred ones, two of each frame of P1,
--- and two radios with one SSI (P3).
+-- two radios with one SSI (P3), ranges (P5), and owners added and handed over (P6).
 -- Assumes nothing.
 use Prim.Native.Nat.{ℕ, zero, suc, _-_}
 use mathlib.Core.Bool.{Bool, true, false, _&&_}
-use mathlib.Core.List.{List, [], _∷_, _++_}
+use mathlib.Core.List.{List, [], _∷_, _++_, map}
 use mathlib.Core.Option.{none}
 use lib.Dec.{eqb}
 use lib.ListN.{length, replicate}
@@ -17,12 +17,12 @@ use Rattle.layout.specs.declared.Written.the-variants as written
 use Rattle.layout.specs.Shape.{Yes, No}
 use Rattle.layout.specs.Frame.{places, readingOf, writtenOf, outputOf}
 use Rattle.rules.specs.Number.{key, plain}
-use Rattle.rules.specs.Order.{Step, define, delete, answer, tick}
-use Rattle.rules.specs.Recorded.{setReference, assignment, numbersAt, defineOf}
+use Rattle.rules.specs.Order.{Step, define, delete, answer, handover, tick}
+use Rattle.rules.specs.Recorded.{setReference, ownersIncluded, assignment, numbersAt, defineOf}
 use Rattle.rules.specs.Refusals.{replyNumber}
-use Rattle.rules.specs.Replies.{Entry, Listing}
-use Rattle.rules.specs.History.{History, start, _then_, refusalIn, listIn}
-use Rattle.rules.specs.Ledger.{list}
+use Rattle.rules.specs.Replies.{Entry, Listing, Showing}
+use Rattle.rules.specs.History.{History, start, _then_, refusalIn, listIn, showIn}
+use Rattle.rules.specs.Ledger.{list, show}
 use Rattle.rules.specs.Steps as steps
 use Rattle.rules.specs.Placing.{Placing}
 use Rattle.rules.specs.Arrival.{byArrival}
@@ -34,6 +34,8 @@ pub data Sample : Type 0 where
   refused : Kind → ℕ → List ℕ → ℕ → ℕ → Sample  -- so many bits in these bytes are refused with this number, at this bit
   -- after this history the step gets this number (0: accepted), and the list of group 5 by asker 1, both of this extension, is then this
   ordered : ℕ → History → Step → ℕ → List Entry → Sample
+  -- after this history the show of group 5 by this asker, both of extension 5, gets this number, and these owners, of extension 5 too
+  shown : History → ℕ → ℕ → List ℕ → Sample
 
 -- ---- records and orders that the table names
 -- an identity takes four places: its form, SNA, SSI and extension
@@ -72,6 +74,26 @@ assigns x = assignsAll x (one (ssi 9)) 1
 -- he defines group 5 and assigns none
 abbrev defines : ℕ → Step
 defines x = define (defineOf (plain x 1) (group 5)) 0
+
+-- an owner of extension 5 defines group 5 and lists owners
+abbrev listsOwners : ℕ → List ℕ → Step
+listsOwners asker owners = define (defineOf (plain 5 asker) (group 5 ++ (1 ∷ replicate (ownersIncluded - setReference) 0 ++ (1 ∷ Yes ∷ owners)))) 0
+
+-- he hands it over to those listed
+abbrev handsOver : ℕ → List ℕ → Step
+handsOver asker owners = handover (record {
+  asker = plain 5 asker;
+  group = record { form = 1; sna = 0; ssi = 5; extension = 0 };
+  owners = numbersAt owners 0;
+})
+
+-- group 5 with owner 1, 2 added, and then handed over by 2 to 4
+abbrev handed : History
+handed = start then assigns 5 then listsOwners 1 (one (ssi 2)) then handsOver 2 (one (ssi 4))
+
+-- group 5 with as many owners as may be: 1 to 16
+abbrev crowded : History
+crowded = start then assigns 5 then listsOwners 1 (listed 1 (ssi 2 ++ ssi 11)) then listsOwners 1 (listed 1 (ssi 10 ++ ssi 16))
 
 -- he deletes group 5, deassign no
 abbrev deletes : ℕ → Step
@@ -175,6 +197,15 @@ samples =
     ∷ ordered 5 start (assignsAll 5 (listed 1 (ssi 7 ++ extended 9 5)) 3) 0 (listedAs 5 7 1 ∷ listedAs 5 8 1 ∷ listedAs 5 9 1 ∷ [])
     ∷ ordered 5 (start then assigns 5) (assignsAll 5 (listed 1 (ssi 9 ++ ssi 8)) 1) 19 (listedAs 5 9 1 ∷ [])
     ∷ ordered 5 (start then assigns 5) (assignsAll 5 (listed 1 (sna 8 ++ ssi 9)) 2) 11 (listedAs 5 9 1 ∷ [])
+    -- a deputy is added, and the creator keeps the group
+    ∷ shown (start then assigns 5 then listsOwners 1 (one (ssi 2))) 1 0 (1 ∷ 2 ∷ [])
+    -- the deputy hands it over: the creator is out, he and the one listed own it
+    ∷ shown handed 1 13 []
+    ∷ shown handed 4 0 (2 ∷ 4 ∷ [])
+    -- an owner who is listed already changes nothing; a seventeenth is refused, and by a handover to himself the asker is left alone
+    ∷ ordered 5 crowded (listsOwners 16 (one (ssi 1))) 0 (listedAs 5 9 1 ∷ [])
+    ∷ ordered 5 crowded (listsOwners 16 (one (ssi 17))) 21 (listedAs 5 9 1 ∷ [])
+    ∷ shown (crowded then handsOver 16 (one (ssi 16))) 16 0 (16 ∷ [])
     ∷ [])))
 
 -- ---- what they pass
@@ -215,6 +246,10 @@ onLedger placing x before next n entries =
     eqb (replyNumber (steps.refused placing (run placing before) next)) n
     && lists entries (list (run placing (before then next)) (plain x 1) (plain x 5) (length entries))
 
+-- this number and these owners of extension 5
+abbrev shows : ℕ → List ℕ → Showing → Bool
+shows n owners reply = eqb (replyNumber (reply .refused)) n && same (reply .owners) (map (λ (a : ℕ). key (plain 5 a)) owners)
+
 -- the reader's answer, and the writer's into that many zero bytes
 unfoldable pub passes : Sample → Bool
 passes (taken kind count bytes s) =
@@ -233,3 +268,7 @@ passes (ordered x before next n entries) =
     && lists entries (listIn (before then next) (plain x 1) (plain x 5) (length entries))
     && onLedger byArrival x before next n entries
     && onLedger byNumber x before next n entries
+passes (shown h asker n owners) =
+    shows n owners (showIn h (plain 5 asker) (plain 5 5))
+    && shows n owners (show (run byArrival h) (plain 5 asker) (plain 5 5))
+    && shows n owners (show (run byNumber h) (plain 5 asker) (plain 5 5))
