@@ -5,8 +5,9 @@ use mathlib.Core.Bool.{Bool, true, false, cond, not, _&&_, _||_}
 use mathlib.Core.List.{[], _∷_}
 use mathlib.Core.Option.{Option, none, some}
 use lib.Dec.{eqb}
-use borrow.Author.Tests.{eqb-true}
+use borrow.Author.Tests.{eqb-true, not-false}
 use Rattle.rules.specs.Lists.{mem, turned}
+use Rattle.rules.specs.Number.{key}
 use Rattle.rules.specs.Mark.{Mark, noneWanted, fresh}
 use Rattle.rules.specs.Order.{Define, Handover, Step, define, delete, answer, handover, tick}
 use Rattle.rules.specs.Order.{defineGroups, defineOwners, deleteGroups, handoverGroup, handoverOwners}
@@ -17,7 +18,7 @@ use Rattle.rules.specs.Refusals.{accepted}
 use Rattle.rules.specs.History.{History, _then_, world, stands, owner, refusalIn}
 use Rattle.rules.specs.Ownership.{TakesAway, deletes, handsOver, Adds, HandsOver}
 use Rattle.rules.proofs.Tests.{split, clash, and-l, and-r}
-use Rattle.rules.proofs.ListLaws.{eqb-same}
+use Rattle.rules.proofs.ListLaws.{eqb-same, any-out}
 use Rattle.rules.proofs.Ranges.{asker-among}
 use Rattle.rules.proofs.LawOrder.{tests-pass}
 use Rattle.rules.proofs.Anew.{testsIn, world-taken}
@@ -59,6 +60,9 @@ module _ (h : History) (g a : ℕ) (owns : owner h g a ≡ true) where
 
 pub define-adds : (h : History) (o : Define) (room : ℕ) → refusalIn h (define o room) ≡ none → Adds h o room
 define-adds h o room e = record {
+  owned = λ g m t. not-false (owner h g (key (o .asker)))
+      (let q = any-out (λ g. stands h g && not (owner h g (key (o .asker)))) g (defineGroups o) (tests-pass (testsIn h (define o room)) e 4) m in
+      cc (t, q));
   named = λ g a m. says g a ∙ rw m refl;
   others = λ g a m. says g a ∙ rw m refl;
 }
@@ -68,6 +72,7 @@ define-adds h o room e = record {
 
 pub handover-sets : (h : History) (o : Handover) → refusalIn h (handover o) ≡ none → HandsOver h o
 handover-sets h o e = record {
+  owned = not-false (owner h (handoverGroup o) (key (o .asker))) (tests-pass (testsIn h (handover o)) e 5);
   exactly = owners;
   asker = owners _ ∙ asker-among (o .asker) (some (o .owners));
   others = λ g a n. ap (λ (w : World). w .owner g a) taken ∙ rw n refl;
@@ -88,10 +93,6 @@ handover-sets h o e = record {
     -- 12 was passed
     there : stands h (handoverGroup o) ≡ true
     there = not-false (stands h (handoverGroup o)) (tests-pass (testsIn h (handover o)) e 4)
-      where
-        not-false : (b : Bool) → not b ≡ false → b ≡ true
-        not-false true q = refl
-        not-false false q = clash q
 
     same : (b : Bool) (m : Option Mark) → cond (b && false) (some (fresh noneWanted)) (turned (λ m. some m) m) ≡ m
     same true none = refl

@@ -14,7 +14,7 @@ use Rattle.rules.specs.Entries.{find}
 use Rattle.rules.specs.Number.{key, identified, wide, wideNumber, wideKey, badIdentity, badList, short, untaken}
 use Rattle.rules.specs.Named.{maxListedOwners, numbersIn}
 use Rattle.rules.specs.Parameters.{noParameters, replaced, badParameters}
-use Rattle.rules.specs.Mark.{Mark, noneWanted, confirmed, fresh, ticked}
+use Rattle.rules.specs.Mark.{Mark, confirmed, fresh, ticked}
 use Rattle.rules.specs.Owners.{added, set, maxOwners}
 use Rattle.rules.specs.Order.{Define, Delete, Answer, Handover, Step, define, delete, answer, handover, tick}
 use Rattle.rules.specs.Order.{defineGroups, defineOwners, deleteGroups, leaves, handoverGroup, handoverOwners}
@@ -280,9 +280,9 @@ module _ (p : Placing) (laws : Lawful p) where
   pub handover-count : (l : Ledger) → Form p l → (o : Handover) → refused p l (handover o) ≡ none
       → length (apply p l (effect (view l) (handover o)) .groups) ≡ length (l .groups)
   handover-count l f o e =
-      let t = tests (view l) (tally p l (effect (view l) (handover o))) (handover o) in
-      groups-total p laws l (f .standing) (handoverGroup o ∷ []) (set (handoverOwners o)) noParameters [] (fresh noneWanted) (refl, tt)
-      ∙ rw (tests-pass t e 4) (omega arith)
+      let does = effect (view l) (handover o) in
+      groups-total p laws l (f .standing) (handoverGroup o ∷ []) (does .owners) (does .parameters) (does .assigns) (does .begins) (refl, tt)
+      ∙ rw (tests-pass (tests (view l) (tally p l does) (handover o)) e 4) (omega arith)
 
   handover-fit : (l : Ledger) → Form p l → (o : Handover) → refused p l (handover o) ≡ none → Fit p l (effect (view l) (handover o))
   handover-fit l f o e =

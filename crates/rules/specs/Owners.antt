@@ -9,11 +9,11 @@ pub record OwnerChange : Type 0 where
   pub stay : Bool
   pub come : List ℕ
 
--- "listed owners are added to those who stand"
+-- "listed owners are added to those who stand, the asker among them"
 abbrev pub added : List ℕ → OwnerChange
 added l = record { stay = true; come = l }
 
--- "sets the owners to exactly .. those"
+-- "sets the owners to exactly the asker and those listed"
 abbrev pub set : List ℕ → OwnerChange
 set l = record { stay = false; come = l }
 

@@ -14,13 +14,15 @@ pub data TakesAway (g a : ℕ) : Step → Type 0 where
   deletes : (o : Delete) (room : ℕ) → o .delete ≡ true → mem g (deleteGroups o) ≡ true → TakesAway g a (delete o room)
   handsOver : (o : Handover) → eqb g (handoverGroup o) ≡ true → mem a (handoverOwners o) ≡ false → TakesAway g a (handover o)
 
--- "listed owners are added to those who stand, the asker among them": the owners of a named group after an accepted define
+-- "listed owners are added to those who stand, the asker among them": after an accepted define, whose asker owned each named group that stood
 pub record Adds (h : History) (o : Define) (room : ℕ) : Type 0 where
+  pub owned : (g : ℕ) → mem g (defineGroups o) ≡ true → stands h g ≡ true → owner h g (key (o .asker)) ≡ true
   pub named : (g a : ℕ) → mem g (defineGroups o) ≡ true → owner (h then define o room) g a ≡ (owner h g a || mem a (defineOwners o))
   pub others : (g a : ℕ) → mem g (defineGroups o) ≡ false → owner (h then define o room) g a ≡ owner h g a
 
--- "sets the owners to exactly the asker and those listed": an accepted handover, which changes nothing else
+-- "sets the owners to exactly the asker and those listed": an accepted handover, by an owner, which changes nothing else
 pub record HandsOver (h : History) (o : Handover) : Type 0 where
+  pub owned : owner h (handoverGroup o) (key (o .asker)) ≡ true
   pub exactly : (a : ℕ) → owner (h then handover o) (handoverGroup o) a ≡ mem a (handoverOwners o)
   pub asker : owner (h then handover o) (handoverGroup o) (key (o .asker)) ≡ true
   pub others : (g a : ℕ) → eqb g (handoverGroup o) ≡ false → owner (h then handover o) g a ≡ owner h g a

@@ -202,6 +202,9 @@ samples =
     -- the deputy hands it over: the creator is out, he and the one listed own it
     ∷ shown handed 1 13 []
     ∷ shown handed 4 0 (2 ∷ 4 ∷ [])
+    -- who does not own it hands nothing over, and lists no owner
+    ∷ ordered 5 (start then assigns 5) (handsOver 2 (one (ssi 2))) 13 (listedAs 5 9 1 ∷ [])
+    ∷ ordered 5 (start then assigns 5) (listsOwners 2 (one (ssi 2))) 13 (listedAs 5 9 1 ∷ [])
     -- an owner who is listed already changes nothing; a seventeenth is refused, and by a handover to himself the asker is left alone
     ∷ ordered 5 crowded (listsOwners 16 (one (ssi 1))) 0 (listedAs 5 9 1 ∷ [])
     ∷ ordered 5 crowded (listsOwners 16 (one (ssi 17))) 21 (listedAs 5 9 1 ∷ [])
