@@ -76,7 +76,14 @@ pub fn tick(head: &[u64], groups: &[[u64; GROUP_WORDS]], pairs: &mut [[u64; PAIR
         count: 0,
         key: [0; MAX_NUMBERS],
     };
-    turn_pairs(pairs, count as usize, Turn::Tick, no_groups, no_radios);
+    turn_pairs(
+        pairs,
+        count as usize,
+        Turn::Tick,
+        no_groups,
+        false,
+        no_radios,
+    );
     Reply::Done
 }
 

@@ -39,8 +39,9 @@ use Rattle.replies.specs.declared.Reply.{Reply}
 use Rattle.replies.specs.declared.Reply.the-variants.{Done, Refused}
 use Rattle.replies.proofs.Orders.{set-both, form-refuses, stand-tells, alter-same}
 use Rattle.turning.specs.Turns.{turnOf}
+use Rattle.turning.specs.declared.Turn.the-variants.{Remove}
 use Rattle.deleting.specs.Leaving.{among, leaving, leavingOrders}
-use Rattle.deleting.specs.Deletes.{formTests, standTests, deleteTurn, groupsLeft, pairsLeft}
+use Rattle.deleting.specs.Deletes.{formTests, standTests, groupsLeft, pairsLeft}
 
 given-present : {A : Type 0} (b : Bool) (x : A) → present (cond b (some x) none) ≡ b
 given-present true x = refl
@@ -130,20 +131,17 @@ module _ (c : Contents) (w : Sound c) where
 
 -- the pairs: those of the groups, or of the groups and the radios, go
 module _ (m : Mark) where
-  all-go : (x : Bool) → cond (not x) (some m) none ≡ cond (x && true) none (some m)
-  all-go true = refl
-  all-go false = refl
-
-  some-go : (x : Bool) → cond (not x) (some m) none ≡ cond x none (some m)
-  some-go true = refl
-  some-go false = refl
+  goes : (x : Bool) → cond (not x) (some m) none ≡ cond x none (some m)
+  goes true = refl
+  goes false = refl
 
   deleted-turn : (remove deassign : Bool) → (not remove && not deassign) ≡ false → (listed : Bool) (gs rs : List ℕ) (k : Pair)
-      → turnOf (deleteTurn remove listed) gs rs k m
+      → turnOf Remove gs (listed && not remove) rs k m
       ≡ cond (mem (k .0) gs && (remove || (deassign && cond listed (mem (k .1) rs) true))) none (some m)
-  deleted-turn true deassign e listed gs rs k = all-go (mem (k .0) gs)
-  deleted-turn false true e true gs rs k = some-go (mem (k .0) gs && mem (k .1) rs)
-  deleted-turn false true e false gs rs k = all-go (mem (k .0) gs)
+  deleted-turn true deassign e true gs rs k = goes (mem (k .0) gs && true)
+  deleted-turn true deassign e false gs rs k = goes (mem (k .0) gs && true)
+  deleted-turn false true e true gs rs k = goes (mem (k .0) gs && mem (k .1) rs)
+  deleted-turn false true e false gs rs k = goes (mem (k .0) gs && true)
   deleted-turn false false e listed gs rs k = absurd (true≢false e)
 
 -- the groups: those named go where the delete says so

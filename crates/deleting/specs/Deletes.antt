@@ -20,8 +20,7 @@ use Rattle.order.specs.declared.Listed.{Listed}
 use Rattle.store.specs.Named.{groupFault}
 use Rattle.store.specs.declared.Standing.the-variants.{Missing, Foreign}
 use Rattle.turning.specs.Turns.{turnOf}
-use Rattle.turning.specs.declared.Turn.{Turn}
-use Rattle.turning.specs.declared.Turn.the-variants.{Leave, LeaveAll}
+use Rattle.turning.specs.declared.Turn.the-variants.{Remove}
 use Rattle.deleting.specs.Leaving.{leavingOrders, remaining}
 
 -- the tests of its form
@@ -44,12 +43,9 @@ standTests groups pairs asker named remove deassign listed radios room =
 
 -- ---- what a delete leaves ----
 
--- all pairs of the groups go, or those of the listed radios
-abbrev pub deleteTurn : Bool → Bool → Turn
-deleteTurn remove listed = cond (not remove && listed) Leave LeaveAll
-
 abbrev pub groupsLeft : List ℕ → Bool → List (ℕ × Group) → List (ℕ × Group)
 groupsLeft named remove l = cond remove (remaining named l) l
 
+-- all pairs of the groups go with them, and those of the listed radios where the groups stay
 abbrev pub pairsLeft : List ℕ → Bool → Bool → List ℕ → List (Pair × Mark) → List (Pair × Mark)
-pairsLeft named remove listed radios l = alter (turnOf (deleteTurn remove listed) named radios) l
+pairsLeft named remove listed radios l = alter (turnOf Remove named (listed && not remove) radios) l

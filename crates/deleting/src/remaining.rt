@@ -10,11 +10,10 @@ use turning::Turn;
 use turning::turn_pairs;
 ghost use Prim.Native.Nat.{_≤_};
 ghost use lib.ListN.{length};
-ghost use mathlib.Core.Path.{_≡_};
 ghost use Rattle.order.specs.Keys.{groupKeys, radioKeys};
 ghost use Rattle.store.specs.Lists.{Fills, Plain};
 ghost use Rattle.store.specs.Storage.{pairRow, pairsOf, groupOf, groupRow, groupsOf};
-ghost use Rattle.deleting.specs.Deletes.{deleteTurn, groupsLeft, pairsLeft};
+ghost use Rattle.deleting.specs.Deletes.{groupsLeft, pairsLeft};
 ghost use Rattle.deleting.specs.Leaving.{remaining};
 
 // The groups that go are taken out, the others close up in their order; their count is returned.
@@ -55,16 +54,6 @@ pub fn delete_groups(
     remove_groups(groups, count, &key[..end])
 }
 
-fn delete_turn(remove: bool, listed: bool) -> Turn
-    ensures { λ r. ⌜ r ≡ deleteTurn remove listed ⌝ }
-{
-    let some = !remove & listed;
-    if some {
-        return Turn::Leave;
-    }
-    Turn::LeaveAll
-}
-
 // The pairs that a delete leaves; their count is returned.
 pub fn delete_pairs(
     pairs: &mut [[u64; PAIR_WORDS]],
@@ -77,5 +66,5 @@ pub fn delete_pairs(
     ensures { λ r. ⌜ Fills pairRow (pairsLeft (groupKeys named) remove listed (radioKeys radios) (pairsOf count (now (pairs .entry))))
         (now (pairs .entry)) (now (pairs .exit)) r ⌝ }
 {
-    turn_pairs(pairs, count, delete_turn(remove, listed), named, radios)
+    turn_pairs(pairs, count, Turn::Remove, named, listed & !remove, radios)
 }

@@ -4,9 +4,8 @@ use mathlib.Core.List.{List, [], _∷_}
 use Rattle.rules.specs.Mark.{Mark, ticked}
 use Rattle.refusal.specs.Says.{Says, accepted}
 use Rattle.turning.specs.declared.Turn.{Turn}
-use Rattle.turning.specs.declared.Turn.the-variants.{Tick, Leave, LeaveAll}
+use Rattle.turning.specs.declared.Turn.the-variants.{Tick, Remove}
 
 abbrev pub turnSays : Turn → Mark → Says
 turnSays Tick m = accepted (ticked m .state ∷ [])
-turnSays Leave m = accepted []
-turnSays LeaveAll m = accepted []
+turnSays Remove m = accepted []

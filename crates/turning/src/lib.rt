@@ -14,24 +14,19 @@ use rows::UNHEARD;
 use rows::WAITING;
 use rows::lesser;
 ghost use Prim.Native.Nat.{_≤_};
-ghost use lib.ListN.{length, getD};
-ghost use mathlib.Core.Bool.{_&&_};
-ghost use mathlib.Core.List.{map};
+ghost use lib.ListN.{length};
 ghost use mathlib.Core.Path.{_≡_};
 ghost use Rattle.rules.specs.Entries.{alter};
-ghost use Rattle.rules.specs.Lists.{mem};
 ghost use Rattle.rules.specs.Mark.{ticked};
-ghost use Rattle.rows.specs.Layout.{pairGroup, pairRadio};
 ghost use Rattle.order.specs.Keys.{groupKeys, radioKeys};
 ghost use Rattle.store.specs.Lists.{Fills};
 ghost use Rattle.store.specs.Storage.{pairOf, pairRow, pairsOf};
-ghost use Rattle.turning.specs.Turns.{staysOf, markOf, turnOf};
+ghost use Rattle.turning.specs.Turns.{named, staysOf, markOf, turnOf};
 
-// What becomes of the pairs: a tick, radios leaving groups, or all radios leaving them.
+// What becomes of the pairs: a tick, or those that an order names are taken away.
 pub enum Turn {
     Tick,
-    Leave,
-    LeaveAll,
+    Remove,
 }
 
 // The last tick that a waiting pair counts.
@@ -55,23 +50,25 @@ fn ticked_row(row: [u64; PAIR_WORDS]) -> [u64; PAIR_WORDS]
     row
 }
 
-// Whether the order names this pair.
-fn names(groups: &[u64], radios: &[u64], row: [u64; PAIR_WORDS]) -> bool
-    ensures { λ r. ⌜ r ≡ (mem (getD row pairGroup 0) (now (groups .entry)) && mem (getD row pairRadio 0) (now (radios .entry))) ⌝ }
+// Whether an order names this pair: its group and, where radios are listed, its radio.
+fn names(groups: &[u64], listed: bool, radios: &[u64], row: [u64; PAIR_WORDS]) -> bool
+    ensures { λ r. ⌜ r ≡ named (now (groups .entry)) listed (now (radios .entry)) (pairOf row .0) ⌝ }
 {
-    if member(groups, row[PAIR_GROUP]) {
+    if !member(groups, row[PAIR_GROUP]) {
+        return false;
+    }
+    if listed {
         return member(radios, row[PAIR_RADIO]);
     }
-    false
+    true
 }
 
-fn stays(turn: Turn, groups: &[u64], radios: &[u64], row: [u64; PAIR_WORDS]) -> bool
-    ensures { λ r. ⌜ r ≡ staysOf turn (now (groups .entry)) (now (radios .entry)) (pairOf row .0) ⌝ }
+fn stays(turn: Turn, groups: &[u64], listed: bool, radios: &[u64], row: [u64; PAIR_WORDS]) -> bool
+    ensures { λ r. ⌜ r ≡ staysOf turn (named (now (groups .entry)) listed (now (radios .entry)) (pairOf row .0)) ⌝ }
 {
     match turn {
         Turn::Tick => true,
-        Turn::Leave => !names(groups, radios, row),
-        Turn::LeaveAll => !member(groups, row[PAIR_GROUP]),
+        Turn::Remove => !names(groups, listed, radios, row),
     }
 }
 
@@ -80,8 +77,7 @@ fn turned(turn: Turn, row: [u64; PAIR_WORDS]) -> [u64; PAIR_WORDS]
 {
     match turn {
         Turn::Tick => ticked_row(row),
-        Turn::Leave => row,
-        Turn::LeaveAll => row,
+        Turn::Remove => row,
     }
 }
 
@@ -91,10 +87,11 @@ fn turn_rows(
     count: usize,
     turn: Turn,
     groups: &[u64],
+    listed: bool,
     radios: &[u64],
 ) -> usize
     requires { ⌜ count ≤ length (now pairs) ⌝ }
-    ensures { λ r. ⌜ Fills pairRow (alter (turnOf turn (now (groups .entry)) (now (radios .entry))) (pairsOf count (now (pairs .entry))))
+    ensures { λ r. ⌜ Fills pairRow (alter (turnOf turn (now (groups .entry)) listed (now (radios .entry))) (pairsOf count (now (pairs .entry))))
         (now (pairs .entry)) (now (pairs .exit)) r ⌝ }
 {
     let mut kept: usize = 0;
@@ -102,7 +99,7 @@ fn turn_rows(
     while i < count {
         let row = pairs[i];
         i += 1;
-        if stays(turn, groups, radios, row) {
+        if stays(turn, groups, listed, radios, row) {
             pairs[kept] = turned(turn, row);
             kept += 1;
         }
@@ -116,15 +113,23 @@ pub fn turn_pairs(
     count: usize,
     turn: Turn,
     groups: Groups,
+    listed: bool,
     radios: Radios,
 ) -> usize
-    ensures { λ r. ⌜ Fills pairRow (alter (turnOf turn (groupKeys groups) (radioKeys radios)) (pairsOf count (now (pairs .entry))))
+    ensures { λ r. ⌜ Fills pairRow (alter (turnOf turn (groupKeys groups) listed (radioKeys radios)) (pairsOf count (now (pairs .entry))))
         (now (pairs .entry)) (now (pairs .exit)) r ⌝ }
 {
     let end = lesser(count, pairs.len());
     let group_key = groups.key;
-    let named = group_count(groups);
+    let group_end = group_count(groups);
     let radio_key = radios.key;
-    let listed = radio_count(radios);
-    turn_rows(pairs, end, turn, &group_key[..named], &radio_key[..listed])
+    let radio_end = radio_count(radios);
+    turn_rows(
+        pairs,
+        end,
+        turn,
+        &group_key[..group_end],
+        listed,
+        &radio_key[..radio_end],
+    )
 }
