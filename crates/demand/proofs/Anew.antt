@@ -1,6 +1,6 @@
 -- A place means nothing: the history alone says what a list holds. A group deleted and made again starts empty.
 use mathlib.Core.Path.{_≡_, refl, sym, ap, _∙_}
-use mathlib.Core.Bool.{Bool, true, false}
+use mathlib.Core.Bool.{true, false}
 use mathlib.Core.List.{List, [], map}
 use mathlib.Core.Option.{Option, none, some}
 use Prim.Native.Nat.{ℕ}
@@ -11,7 +11,7 @@ use Rattle.layout.specs.declared.Record.{Record}
 use Rattle.rules.specs.Lists.{mem}
 use Rattle.rules.specs.Number.{Number, key, wideNumber}
 use Rattle.rules.specs.Named.{numbers}
-use Rattle.rules.specs.Order.{Delete, define, delete, defineGroups}
+use Rattle.rules.specs.Order.{Delete, Step, define, delete, defineGroups}
 use Rattle.rules.specs.Recorded.{defineOf}
 use Rattle.rules.specs.Ledger.{list}
 use Rattle.rules.specs.History.{History, _then_, refusalIn, sentIn, listIn}
@@ -22,17 +22,16 @@ use Rattle.rules.proofs.Anew as rules
 use Rattle.order.specs.Numbers.{radioNumber, askedNumber}
 use Rattle.order.specs.Walks.{onto}
 use Rattle.store.specs.Storage.{Rows, Contents, placing}
-use Rattle.order.specs.Lists.{numbersOf, listOf}
+use Rattle.order.specs.Lists.{numbersOf}
 use Rattle.replies.specs.Sending.{sentReply}
 use Rattle.replies.specs.Listing.{entryRow, membersOf}
 use Rattle.order.specs.declared.GroupAsked.{GroupAsked}
 use Rattle.order.specs.declared.Itsi.{Itsi}
-use Rattle.order.specs.declared.Numbers.{Numbers}
-use Rattle.order.specs.declared.Listed.{Listed}
 use Rattle.replies.specs.declared.Sent.the-variants.{Orders}
 use Rattle.replies.specs.declared.Members.{Members}
 use Rattle.replies.specs.declared.Members.the-variants.{Radios}
 use Rattle.replies.specs.declared.Shown.{Shown}
+use Rattle.demand.specs.Arguments.{Deletion, deletionStep}
 use Rattle.demand.specs.Calls.{Defines, Deletes, Lists, Shows}
 use Rattle.demand.specs.Runs.{Kept, defined, deleted}
 use Rattle.demand.proofs.Demand.{demand}
@@ -59,22 +58,24 @@ sent-none : (o : Option Refusal) (n k : ℕ) → Orders n ≡ sentReply o k → 
 sent-none none n k e = refl
 sent-none (some r) n k e = let z : _≡_ {A = ℕ} 0 1 = cc in absurd (omega arith)
 
+-- the order of a step that is a delete
+abbrev orderOf : {o : Delete} {room : ℕ} (s : Step) → s ≡ delete o room → Delete
+orderOf {o} s e = o
+
 -- an accepted delete takes the group away, an accepted define without radios makes it again: the list of the define's asker
 -- is empty, and leaves its room as it was, whatever radios the group had
 pub again-empty : {c₀ c₁ c₂ : Contents} {h : History} → Kept c₀ h
-    → {asker : Itsi} {named : Numbers} {deassign : Bool} {radios : Listed} {space sent : Rows} {n : ℕ}
-    → Deletes asker named true deassign radios space sent c₀ c₁ (Orders n)
+    → {d : Deletion} {space sent : Rows} {n : ℕ} → Deletes d space sent c₀ c₁ (Orders n) → d .remove ≡ true
     → {maker : Itsi} {values : Record} {space′ sent′ : Rows} {n′ : ℕ} → Defines maker values space′ sent′ c₁ c₂ (Orders n′)
     → {asked : GroupAsked} {room listed : Rows} {reply : Members} → Lists maker asked room listed c₂ reply
     → let g = askedNumber maker asked in
     let o = defineOf (radioNumber maker) (values .place) in
-    wideNumber g ≡ false → mem (key g) (numbers (asker .1) (numbersOf named)) ≡ true → mem (key g) (defineGroups o) ≡ true → o .radios ≡ none
+    wideNumber g ≡ false → mem (key g) (numbers (d .asker .1) (numbersOf (d .named))) ≡ true → mem (key g) (defineGroups o) ≡ true → o .radios ≡ none
     → (reply ≡ Radios 0) × (listed ≡ room)
-again-empty {h = h} k {asker} {named} {deassign} {radios} {space} {n = n} a {maker} {values} {space′} {n′ = n′} b {asked} {room} e narrow gone made empty =
-    let d : Delete = record { asker = radioNumber asker; groups = numbersOf named; delete = true; deassign = deassign; radios = listOf radios } in
+again-empty {h = h} k {d} {space} {n = n} a removes {maker} {values} {space′} {n′ = n′} b {asked} {room} e narrow gone made empty =
     let o = defineOf (radioNumber maker) (values .place) in
     let g = askedNumber maker asked in
-    let s = delete d (length space) in
+    let s = deletionStep d (length space) in
     let s′ = define o (length space′) in
     let k₁ = deleted k a in
     let taken = sent-none (refusalIn h s) n (length (sentIn h s)) (demand k .deletes a .0) in
@@ -82,6 +83,6 @@ again-empty {h = h} k {asker} {named} {deassign} {radios} {space} {n = n} a {mak
     let l : listIn (h then s then s′) (radioNumber maker) g (length room) ≡ record { refused = none; entries = [] } =
     sym (list-agree placing by-number (h then s then s′) (radioNumber maker) g (length room))
     ∙ ap (λ (x : Number). list (run placing (h then s then s′)) x g (length room)) (sym (defined-by (radioNumber maker) (values .place)))
-    ∙ rules.again-empty placing by-number h d o g (length space) (length space′) (length room) narrow taken refl gone taken′ made empty in
+    ∙ rules.again-empty placing by-number h (orderOf s refl) o g (length space) (length space′) (length room) narrow taken removes gone taken′ made empty in
     let f = demand (defined k₁ b) .lists e in
     (f .0 ∙ ap membersOf l, f .1 ∙ (λ i. onto (map entryRow (l i .entries)) room))

@@ -1,6 +1,6 @@
 -- Every history that callers may ask for is the history of some run: the contracts forbid none, so the demand speaks of all.
 use mathlib.Core.Path.{_≡_, refl, sym, ap, _∙_, subst}
-use mathlib.Core.Bool.{Bool, true, cond}
+use mathlib.Core.Bool.{true, cond}
 use mathlib.Core.List.{List, [], _∷_, map}
 use mathlib.Core.Option.{Option, none, some}
 use Prim.Native.Nat.{ℕ}
@@ -22,21 +22,20 @@ use Rattle.rules.specs.History.{_then_}
 use Rattle.rules.proofs.Walks.{alter-all}
 use Rattle.rules.proofs.ByNumber.{by-number}
 use Rattle.rules.proofs.Written.{handover-count}
-use Rattle.order.specs.Steps.{answerStep, handoverOf, handoverStep, defineStep, deleteStep}
+use Rattle.order.specs.Steps.{handoverOf, handoverStep, defineStep}
 use Rattle.order.specs.Walks.{onto}
 use Rattle.store.specs.Storage.{Rows, Contents, contents, pairRow, pairsOf, groupCount, pairCount, placing, ledgerOf, laid}
 use Rattle.store.specs.Form.{roomy, Sound}
 use Rattle.replies.specs.Orders.{replyOf, verdict, contentsAfter}
 use Rattle.replies.specs.Sending.{orderRow, sentOn, sentReply}
-use Rattle.order.specs.declared.Gtsi.{Gtsi}
 use Rattle.order.specs.declared.Itsi.{Itsi}
 use Rattle.order.specs.declared.Identity.{Identity}
 use Rattle.order.specs.declared.Numbers.{Numbers}
-use Rattle.order.specs.declared.Listed.{Listed}
 use Rattle.replies.specs.declared.Reply.the-variants.{Done}
 use Rattle.replies.proofs.Orders.{refused-stays, taken-after, head-counts, count-groups, count-pairs, pairs-stay}
 use Rattle.making.proofs.Standing.{formed}
 use Rattle.answering.proofs.Answered.{turned-laid, ticked-laid}
+use Rattle.demand.specs.Arguments.{Deletion, Answering, deletionStep, answeringStep}
 use Rattle.demand.specs.Calls.{Storage, Empties, Ticks, Answers, HandsOver, Defines, Deletes}
 use Rattle.demand.specs.Runs.{Kept, begun, defined, deleted, answered, handedOver, ticked}
 use Rattle.demand.specs.Asked as asked
@@ -68,18 +67,17 @@ defines asker values room c =
       sends = refl;
     }
 
-deletes : (asker : Itsi) (named : Numbers) (remove deassign : Bool) (radios : Listed) (room : Rows) (c : Contents)
-    → let s = deleteStep asker named remove deassign radios (length room) in
-    Deletes asker named remove deassign radios room (onto (map orderRow (sentOn c s)) room) c (contentsAfter c s)
-    (sentReply (verdict c s) (length (sentOn c s)))
-deletes asker named remove deassign radios room c =
-    let s = deleteStep asker named remove deassign radios (length room) in
+deletes : (d : Deletion) (room : Rows) (c : Contents) → let s = deletionStep d (length room) in
+    Deletes d room (onto (map orderRow (sentOn c s)) room) c (contentsAfter c s) (sentReply (verdict c s) (length (sentOn c s)))
+deletes d room c =
+    let s = deletionStep d (length room) in
     let to = lends (contentsAfter c s) in
+    let orders = lend (onto (map orderRow (sentOn c s)) room) in
     record {
       lifetimes = ([], ([], ([], ([], tt))));
       lent = lends c;
       out = lend room;
-      left = (to .head, (to .groups, (to .pairs, (asker, (named, (remove, (deassign, (radios, (lend (onto (map orderRow (sentOn c s)) room), tt)))))))));
+      left = (to .head, (to .groups, (to .pairs, (d .asker, (d .named, (d .remove, (d .deassign, (d .radios, (orders, tt)))))))));
       starts = refl;
       roomed = refl;
       meets = record { replies = refl; leaves = refl; sends = refl };
@@ -88,29 +86,27 @@ deletes asker named remove deassign radios room c =
     }
 
 -- the groups' rows stay through an answer
-answer-stays : (radio : Itsi) (group : Gtsi) (result : ℕ) (c : Contents) → Sound c → contentsAfter c (answerStep radio group result) .groups ≡ c .groups
-answer-stays radio group result c w = go (refused placing (ledgerOf c) (answerStep radio group result)) refl
+answer-stays : (a : Answering) (c : Contents) → Sound c → contentsAfter c (answeringStep a) .groups ≡ c .groups
+answer-stays a c w = go (refused placing (ledgerOf c) (answeringStep a)) refl
   where
     turns : ℕ → ℕ → mark.Mark → Option mark.Mark
-    turns = effect (view (ledgerOf c)) (answerStep radio group result) .turns
+    turns = effect (view (ledgerOf c)) (answeringStep a) .turns
 
-    go : (o : Option Refusal) → refused placing (ledgerOf c) (answerStep radio group result) ≡ o
-        → contentsAfter c (answerStep radio group result) .groups ≡ c .groups
-    go none e = ap (λ (x : Contents). x .groups) (taken-after c (answerStep radio group result) (w .form) e .1 ∙ sym (turned-laid c w turns _ _ refl refl))
+    go : (o : Option Refusal) → refused placing (ledgerOf c) (answeringStep a) ≡ o → contentsAfter c (answeringStep a) .groups ≡ c .groups
+    go none e = ap (λ (x : Contents). x .groups) (taken-after c (answeringStep a) (w .form) e .1 ∙ sym (turned-laid c w turns _ _ refl refl))
     go (some r) e = ap (λ (x : Contents). x .groups)
-        (sym (refused-stays c (answerStep radio group result) r (λ i. replyOf (cond (sym (w .form) i) (sym e i) (some NotWritten)))))
+        (sym (refused-stays c (answeringStep a) r (λ i. replyOf (cond (sym (w .form) i) (sym e i) (some NotWritten)))))
 
-answers : (radio : Itsi) (group : Gtsi) (result : ℕ) (c : Contents) → Sound c
-    → let s = answerStep radio group result in Answers radio group result c (contentsAfter c s) (replyOf (verdict c s))
-answers radio group result c w =
-    let s = answerStep radio group result in
+answers : (a : Answering) (c : Contents) → Sound c → let s = answeringStep a in Answers a c (contentsAfter c s) (replyOf (verdict c s))
+answers a c w =
+    let s = answeringStep a in
     let to = lends (contentsAfter c s) in
     let e : contents (contentsAfter c s .head) (c .groups) (contentsAfter c s .pairs) ≡ contentsAfter c s = λ i. contents (contentsAfter c s .head)
-    (sym (answer-stays radio group result c w) i) (contentsAfter c s .pairs) in
+    (sym (answer-stays a c w) i) (contentsAfter c s .pairs) in
     record {
       lifetimes = ([], ([], ([], tt)));
       lent = lends c;
-      left = (to .head, (lend (c .groups), (to .pairs, (radio, (group, (result, tt))))));
+      left = (to .head, (lend (c .groups), (to .pairs, (a .radio, (a .group, (a .result, tt))))));
       starts = refl;
       meets = record { replies = refl; leaves = e };
       ends = e;
@@ -199,21 +195,19 @@ reached (asked.define asker values n ∷ l) =
           (historyOf l then defineStep asker (values .place) m)) (length-replicate {A = List ℕ} n blank)
           (defined (r .kept) (defines asker values room (r .left)));
     }
-reached (asked.delete asker named remove deassign radios n ∷ l) =
+reached (asked.delete d n ∷ l) =
     let r = reached l in
     let room : Rows = replicate n blank in
     record {
-      left = contentsAfter (r .left) (deleteStep asker named remove deassign radios (length room));
-      kept = subst (λ (m : ℕ). Kept (contentsAfter (r .left) (deleteStep asker named remove deassign radios (length room)))
-          (historyOf l then deleteStep asker named remove deassign radios m)) (length-replicate {A = List ℕ} n blank)
-          (deleted (r .kept) (deletes asker named remove deassign radios room (r .left)));
+      left = contentsAfter (r .left) (deletionStep d (length room));
+      kept = subst (λ (m : ℕ). Kept (contentsAfter (r .left) (deletionStep d (length room))) (historyOf l then deletionStep d m))
+          (length-replicate {A = List ℕ} n blank) (deleted (r .kept) (deletes d room (r .left)));
     }
-reached (asked.answer radio group result ∷ l) =
+reached (asked.answer a ∷ l) =
     let r = reached l in
     record {
-      left = contentsAfter (r .left) (answerStep radio group result);
-      kept = answered (r .kept)
-          (answers radio group result (r .left) (run-stands (r .kept) .sound));
+      left = contentsAfter (r .left) (answeringStep a);
+      kept = answered (r .kept) (answers a (r .left) (run-stands (r .kept) .sound));
     }
 reached (asked.handover asker group owners ∷ l) =
     let r = reached l in

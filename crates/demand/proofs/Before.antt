@@ -15,7 +15,7 @@ use Rattle.rules.proofs.Agree.{refusal-agree, sent-agree, list-agree, show-agre
 use Rattle.rules.proofs.Alike.{as-before}
 use Rattle.rules.proofs.Stretches.{run-in-stretches}
 use Rattle.order.specs.Numbers.{radioNumber, askedNumber}
-use Rattle.order.specs.Steps.{answerStep, handoverStep, defineStep, deleteStep}
+use Rattle.order.specs.Steps.{handoverStep, defineStep}
 use Rattle.order.specs.Walks.{onto}
 use Rattle.store.specs.Storage.{Rows, Contents}
 use Rattle.replies.specs.Orders.{replyOf}
@@ -23,6 +23,7 @@ use Rattle.replies.specs.Sending.{orderRow, sentReply}
 use Rattle.replies.specs.Listing.{entryRow, membersOf}
 use Rattle.replies.specs.Showing.{shownOf}
 use Rattle.replies.specs.declared.Sent.{Sent}
+use Rattle.demand.specs.Arguments.{deletionStep, answeringStep}
 use Rattle.demand.specs.Runs.{Kept}
 use Rattle.demand.specs.Before.{old, AsBefore}
 use Rattle.demand.proofs.Demand.{demand}
@@ -52,9 +53,8 @@ before {c} {h} k =
       stretches = subst InStretches (sym (f .holds)) (run-in-stretches h);
       defines = λ {asker} {values} {room} {rows} {c′} {reply} e.
           sent-before h (defineStep asker (values .place) (length room)) room rows reply (f .defines e);
-      deletes = λ {asker} {named} {remove} {deassign} {radios} {room} {rows} {c′} {reply} e.
-          sent-before h (deleteStep asker named remove deassign radios (length room)) room rows reply (f .deletes e);
-      answers = λ {radio} {group} {result} e. f .answers e ∙ reply-before h (answerStep radio group result);
+      deletes = λ {d} {room} {rows} {c′} {reply} e. sent-before h (deletionStep d (length room)) room rows reply (f .deletes e);
+      answers = λ {a} e. f .answers e ∙ reply-before h (answeringStep a);
       handsOver = λ {asker} {group} {owners} e. f .handsOver e ∙ reply-before h (handoverStep asker group owners);
       ticks = λ e. f .ticks e ∙ reply-before h tick;
       lists = λ {asker} {asked} {room} {listed} e.

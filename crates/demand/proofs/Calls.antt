@@ -1,29 +1,26 @@
 -- What each call's contract says of the contents before it and after it, whatever places they were lent in.
 use mathlib.Core.Path.{_≡_, sym, _∙_}
-use mathlib.Core.Bool.{Bool}
 use mathlib.Core.List.{map}
-use Prim.Native.Nat.{ℕ}
 use lib.ListN.{length}
 use Rattle.layout.specs.declared.Record.{Record}
 use Rattle.rules.specs.Order.{Step, tick}
 use Rattle.order.specs.Numbers.{askedGroup}
-use Rattle.order.specs.Steps.{answerStep, handoverStep, defineStep, deleteStep}
+use Rattle.order.specs.Steps.{handoverStep, defineStep}
 use Rattle.order.specs.Walks.{onto}
 use Rattle.store.specs.Storage.{Rows, Contents}
 use Rattle.replies.specs.Orders.{replyOf, verdict, contentsAfter, emptyVerdict, emptied, Begins, Replies}
 use Rattle.replies.specs.Sending.{orderRow, sentOn, sentReply, Sends}
 use Rattle.replies.specs.Listing.{entryRow, listOn, membersOf}
 use Rattle.replies.specs.Showing.{showOn, shownOf}
-use Rattle.order.specs.declared.Gtsi.{Gtsi}
 use Rattle.order.specs.declared.Itsi.{Itsi}
 use Rattle.order.specs.declared.Identity.{Identity}
 use Rattle.order.specs.declared.GroupAsked.{GroupAsked}
 use Rattle.order.specs.declared.Numbers.{Numbers}
-use Rattle.order.specs.declared.Listed.{Listed}
 use Rattle.replies.specs.declared.Reply.{Reply}
 use Rattle.replies.specs.declared.Sent.{Sent}
 use Rattle.replies.specs.declared.Members.{Members}
 use Rattle.replies.specs.declared.Shown.{Shown}
+use Rattle.demand.specs.Arguments.{Deletion, Answering, deletionStep, answeringStep}
 use Rattle.demand.specs.Calls.{Empties, Ticks, Answers, HandsOver, Defines, Deletes, Lists, Shows}
 
 module _ {c c′ : Contents} where
@@ -39,11 +36,10 @@ module _ {c c′ : Contents} where
     leaves = sym (e .ends) ∙ e .meets .leaves ∙ (λ i. contentsAfter (e .starts i) tick);
   }
 
-  pub answer-says : {radio : Itsi} {group : Gtsi} {result : ℕ} {reply : Reply} → Answers radio group result c c′ reply
-      → Replies (answerStep radio group result) c c′ reply
-  answer-says {radio} {group} {result} e = record {
-    replies = e .meets .replies ∙ (λ i. replyOf (verdict (e .starts i) (answerStep radio group result)));
-    leaves = sym (e .ends) ∙ e .meets .leaves ∙ (λ i. contentsAfter (e .starts i) (answerStep radio group result));
+  pub answer-says : {a : Answering} {reply : Reply} → Answers a c c′ reply → Replies (answeringStep a) c c′ reply
+  answer-says {a} e = record {
+    replies = e .meets .replies ∙ (λ i. replyOf (verdict (e .starts i) (answeringStep a)));
+    leaves = sym (e .ends) ∙ e .meets .leaves ∙ (λ i. contentsAfter (e .starts i) (answeringStep a));
   }
 
   pub handover-says : {asker : Itsi} {group : Identity} {owners : Numbers} {reply : Reply} → HandsOver asker group owners c c′ reply
@@ -63,10 +59,9 @@ module _ {c c′ : Contents} where
         sends = sym (e .sends) ∙ e .meets .sends ∙ (λ i. onto (map orderRow (sentOn (e .starts i) (s (e .roomed i)))) (e .roomed i));
       }
 
-  pub delete-says : {asker : Itsi} {named : Numbers} {remove deassign : Bool} {radios : Listed} {room sent : Rows} {reply : Sent}
-      → Deletes asker named remove deassign radios room sent c c′ reply → Sends (deleteStep asker named remove deassign radios) room sent c c′ reply
-  delete-says {asker} {named} {remove} {deassign} {radios} e =
-      let s : Rows → Step = λ room. deleteStep asker named remove deassign radios (length room) in
+  pub delete-says : {d : Deletion} {room sent : Rows} {reply : Sent} → Deletes d room sent c c′ reply → Sends (deletionStep d) room sent c c′ reply
+  delete-says {d} e =
+      let s : Rows → Step = λ room. deletionStep d (length room) in
       record {
         replies = e .meets .replies ∙ (λ i. sentReply (verdict (e .starts i) (s (e .roomed i))) (length (sentOn (e .starts i) (s (e .roomed i)))));
         leaves = sym (e .ends) ∙ e .meets .leaves ∙ (λ i. contentsAfter (e .starts i) (s (e .roomed i)));

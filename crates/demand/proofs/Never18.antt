@@ -18,7 +18,7 @@ use Rattle.rules.specs.Refusals.{first, tests, refusal, showRefusal, askTests, 
 use Rattle.rules.specs.Effect.{effect}
 use Rattle.rules.specs.History.{History, _then_, world, namedIn, tallyIn, radiosIn, refusalIn, sentIn, listIn, showIn}
 use Rattle.order.specs.Numbers.{radioNumber, askedNumber}
-use Rattle.order.specs.Steps.{answerStep, handoverStep, defineStep, deleteStep}
+use Rattle.order.specs.Steps.{handoverStep, defineStep}
 use Rattle.store.specs.Storage.{Contents}
 use Rattle.store.specs.Form.{roomy}
 use Rattle.replies.specs.Orders.{emptyVerdict}
@@ -28,6 +28,7 @@ use Rattle.replies.specs.declared.Sent.the-variants as sending
 use Rattle.replies.specs.declared.Members.the-variants as members
 use Rattle.replies.specs.declared.Shown.{Shown}
 use Rattle.replies.proofs.Orders.{reply-some}
+use Rattle.demand.specs.Arguments.{deletionStep, answeringStep}
 use Rattle.demand.specs.Runs.{Kept}
 use Rattle.demand.specs.Demand.{Never18}
 use Rattle.demand.proofs.Back.{form-parts}
@@ -84,9 +85,9 @@ never18 {c} {h} k =
     record {
       defines = λ {asker} {values} {room} e. let s = defineStep asker (values .place) (length room) in
           in-history h s (sent-some (refusalIn h s) (length (sentIn h s)) NotWritten (f .defines e .0));
-      deletes = λ {asker} {named} {remove} {deassign} {radios} {room} e. let s = deleteStep asker named remove deassign radios (length room) in
+      deletes = λ {d} {room} e. let s = deletionStep d (length room) in
           in-history h s (sent-some (refusalIn h s) (length (sentIn h s)) NotWritten (f .deletes e .0));
-      answers = λ {radio} {group} {result} e. let s = answerStep radio group result in
+      answers = λ {a} e. let s = answeringStep a in
           in-history h s (reply-some (refusalIn h s) NotWritten (f .answers e));
       handsOver = λ {asker} {group} {owners} e. let s = handoverStep asker group owners in
           in-history h s (reply-some (refusalIn h s) NotWritten (f .handsOver e));

@@ -10,13 +10,14 @@ use Rattle.rules.specs.Order.{Step}
 use Rattle.rules.specs.Refusals.{accepted}
 use Rattle.rules.specs.Spelled as law
 use Rattle.rules.proofs.Spelled.{as-listed}
-use Rattle.order.specs.Steps.{handoverStep, defineStep, deleteStep}
+use Rattle.order.specs.Steps.{handoverStep, defineStep}
 use Rattle.order.specs.Walks.{onto}
 use Rattle.store.specs.Storage.{Rows, Contents, placing, ledgerOf, laid}
 use Rattle.store.specs.Form.{isWritten}
 use Rattle.replies.specs.Orders.{replyOf, verdict, contentsAfter}
 use Rattle.replies.specs.Sending.{orderRow, sentOn, sentReply, Sends}
 use Rattle.replies.specs.declared.Sent.{Sent}
+use Rattle.demand.specs.Arguments.{deletionStep}
 use Rattle.demand.specs.Spelled.{SameOutcome, ReadAsListed}
 use Rattle.demand.proofs.Calls.{handover-says, define-says, delete-says}
 
@@ -50,8 +51,7 @@ pub range-as-listed : (c : Contents) (room : Rows) → ReadAsListed c room
 range-as-listed c room = record {
   defines = λ {asker} {values} {values′} a k k′.
       same-call c (defineStep asker (values .place)) (defineStep asker (values′ .place)) room a (define-says k) (define-says k′);
-  deletes = λ {asker} {named} {named′} {remove} {deassign} {radios} {radios′} a k k′.
-      same-call c (deleteStep asker named remove deassign radios) (deleteStep asker named′ remove deassign radios′) room a (delete-says k) (delete-says k′);
+  deletes = λ {d} {d′} a k k′. same-call c (deletionStep d) (deletionStep d′) room a (delete-says k) (delete-says k′);
   handsOver = λ {asker} {group} {owners} {owners′} a e e′.
       let k = handover-says e in
       let k′ = handover-says e′ in

@@ -1,31 +1,29 @@
 -- Orders as callers may ask for them, any number of them, one after another.
-use mathlib.Core.Bool.{Bool}
 use mathlib.Core.List.{List, [], _∷_}
 use Prim.Native.Nat.{ℕ}
 use Rattle.layout.specs.declared.Record.{Record}
 use Rattle.rules.specs.Order as order
 use Rattle.rules.specs.History.{History, start, _then_}
-use Rattle.order.specs.Steps.{answerStep, handoverStep, defineStep, deleteStep}
+use Rattle.order.specs.Steps.{handoverStep, defineStep}
 use Rattle.store.specs.Storage.{Contents}
-use Rattle.order.specs.declared.Gtsi.{Gtsi}
 use Rattle.order.specs.declared.Itsi.{Itsi}
 use Rattle.order.specs.declared.Identity.{Identity}
 use Rattle.order.specs.declared.Numbers.{Numbers}
-use Rattle.order.specs.declared.Listed.{Listed}
+use Rattle.demand.specs.Arguments.{Deletion, Answering, deletionStep, answeringStep}
 use Rattle.demand.specs.Runs.{Kept}
 
 -- the last number of a define and of a delete is the rows of room lent for what goes out
 pub data Asked : Type 0 where
   define : Itsi → Record → ℕ → Asked
-  delete : Itsi → Numbers → Bool → Bool → Listed → ℕ → Asked
-  answer : Itsi → Gtsi → ℕ → Asked
+  delete : Deletion → ℕ → Asked
+  answer : Answering → Asked
   handover : Itsi → Identity → Numbers → Asked
   tick : Asked
 
 abbrev pub stepOf : Asked → order.Step
 stepOf (define asker values room) = defineStep asker (values .place) room
-stepOf (delete asker named remove deassign radios room) = deleteStep asker named remove deassign radios room
-stepOf (answer radio group result) = answerStep radio group result
+stepOf (delete d room) = deletionStep d room
+stepOf (answer a) = answeringStep a
 stepOf (handover asker group owners) = handoverStep asker group owners
 stepOf tick = order.tick
 

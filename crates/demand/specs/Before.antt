@@ -1,9 +1,7 @@
 -- Document 02, P10, over the contracts of the ledger's own functions: on the contents that any run has left, the groups and pairs that stand,
 -- and the answer of every call, are those of the layout by arrival after the same run; and the pairs are laid as P10 says.
 use mathlib.Core.Path.{_≡_}
-use mathlib.Core.Bool.{Bool}
 use mathlib.Core.List.{map}
-use Prim.Native.Nat.{ℕ}
 use lib.ListN.{length}
 use Rattle.layout.specs.declared.Record.{Record}
 use Rattle.rules.specs.Order.{tick}
@@ -14,14 +12,12 @@ use Rattle.rules.specs.Steps.{refused, sent}
 use Rattle.rules.specs.History.{History}
 use Rattle.rules.specs.Run.{run}
 use Rattle.order.specs.Numbers.{radioNumber, askedNumber}
-use Rattle.order.specs.Steps.{answerStep, handoverStep, defineStep, deleteStep}
+use Rattle.order.specs.Steps.{handoverStep, defineStep}
 use Rattle.order.specs.Walks.{onto}
-use Rattle.order.specs.declared.Gtsi.{Gtsi}
 use Rattle.order.specs.declared.Itsi.{Itsi}
 use Rattle.order.specs.declared.Identity.{Identity}
 use Rattle.order.specs.declared.GroupAsked.{GroupAsked}
 use Rattle.order.specs.declared.Numbers.{Numbers}
-use Rattle.order.specs.declared.Listed.{Listed}
 use Rattle.store.specs.Storage.{Rows, Contents, ledgerOf}
 use Rattle.replies.specs.Orders.{replyOf}
 use Rattle.replies.specs.Sending.{orderRow, sentReply}
@@ -31,6 +27,7 @@ use Rattle.replies.specs.declared.Reply.{Reply}
 use Rattle.replies.specs.declared.Sent.{Sent}
 use Rattle.replies.specs.declared.Members.{Members}
 use Rattle.replies.specs.declared.Shown.{Shown}
+use Rattle.demand.specs.Arguments.{Deletion, Answering, deletionStep, answeringStep}
 use Rattle.demand.specs.Calls.{Ticks, Answers, HandsOver, Defines, Deletes, Lists, Shows}
 
 -- the ledger in the old layout
@@ -49,12 +46,10 @@ pub record AsBefore (c : Contents) (h : History) : Type 0 where
       → Defines asker values room rows c c′ reply
       → let s = defineStep asker (values .place) (length room) in
       (reply ≡ sentReply (refused byArrival (old h) s) (length (sent byArrival (old h) s))) × (rows ≡ onto (map orderRow (sent byArrival (old h) s)) room)
-  pub deletes : {asker : Itsi} {named : Numbers} {remove deassign : Bool} {radios : Listed} {room rows : Rows} {c′ : Contents} {reply : Sent}
-      → Deletes asker named remove deassign radios room rows c c′ reply
-      → let s = deleteStep asker named remove deassign radios (length room) in
+  pub deletes : {d : Deletion} {room rows : Rows} {c′ : Contents} {reply : Sent} → Deletes d room rows c c′ reply
+      → let s = deletionStep d (length room) in
       (reply ≡ sentReply (refused byArrival (old h) s) (length (sent byArrival (old h) s))) × (rows ≡ onto (map orderRow (sent byArrival (old h) s)) room)
-  pub answers : {radio : Itsi} {group : Gtsi} {result : ℕ} {c′ : Contents} {reply : Reply}
-      → Answers radio group result c c′ reply → reply ≡ replyOf (refused byArrival (old h) (answerStep radio group result))
+  pub answers : {a : Answering} {c′ : Contents} {reply : Reply} → Answers a c c′ reply → reply ≡ replyOf (refused byArrival (old h) (answeringStep a))
   pub handsOver : {asker : Itsi} {group : Identity} {owners : Numbers} {c′ : Contents} {reply : Reply}
       → HandsOver asker group owners c c′ reply → reply ≡ replyOf (refused byArrival (old h) (handoverStep asker group owners))
   pub ticks : {c′ : Contents} {reply : Reply} → Ticks c c′ reply → reply ≡ replyOf (refused byArrival (old h) tick)

@@ -3,7 +3,6 @@
 --     lent, out      where the contents and the room were lent          left    what the parameters held at the end
 --     meets          the reply and what was left meet the contract      starts, roomed, ends, sends, lists    what these places held
 use mathlib.Core.Path.{_≡_}
-use mathlib.Core.Bool.{Bool}
 use mathlib.Core.List.{List}
 use Prim.Native.Nat.{ℕ}
 use contract.Lifetimes.{Lfts}
@@ -12,16 +11,15 @@ use denote.Triple.Clauses.{AtExit}
 use denote.Ref.{RefT, now}
 use Rattle.layout.specs.declared.Record.{Record}
 use Rattle.store.specs.Storage.{Rows, Contents, contents}
-use Rattle.order.specs.declared.Gtsi.{Gtsi}
 use Rattle.order.specs.declared.Itsi.{Itsi}
 use Rattle.order.specs.declared.Identity.{Identity}
 use Rattle.order.specs.declared.GroupAsked.{GroupAsked}
 use Rattle.order.specs.declared.Numbers.{Numbers}
-use Rattle.order.specs.declared.Listed.{Listed}
 use Rattle.replies.specs.declared.Reply.{Reply}
 use Rattle.replies.specs.declared.Sent.{Sent}
 use Rattle.replies.specs.declared.Members.{Members}
 use Rattle.replies.specs.declared.Shown.{Shown}
+use Rattle.demand.specs.Arguments.{Deletion, Answering}
 use Rattle.answering.proofs.empty.Kinds as empty-kinds
 use Rattle.answering.proofs.empty.Reads as empty
 use Rattle.answering.proofs.tick.Kinds as tick-kinds
@@ -66,12 +64,12 @@ pub record Ticks (before after : Contents) (reply : Reply) : Type 0 where
   pub meets : tick.Post lifetimes (lent .head, (lent .groups, (lent .pairs, tt))) reply left
   pub ends : contents (now (lent .head)) (now (lent .groups)) (now (left .1 .1 .0)) ≡ after
 
-pub record Answers (radio : Itsi) (group : Gtsi) (result : ℕ) (before after : Contents) (reply : Reply) : Type 0 where
+pub record Answers (a : Answering) (before after : Contents) (reply : Reply) : Type 0 where
   pub lifetimes : Lfts 3
   pub lent : Storage
   pub left : AtExit (endedOf 3 answer-kinds.ps answer-kinds.r) lifetimes
   pub starts : held lent ≡ before
-  pub meets : answer.Post lifetimes (lent .head, (lent .groups, (lent .pairs, (radio, (group, (result, tt)))))) reply left
+  pub meets : answer.Post lifetimes (lent .head, (lent .groups, (lent .pairs, (a .radio, (a .group, (a .result, tt)))))) reply left
   pub ends : contents (now (left .0)) (now (lent .groups)) (now (left .1 .1 .0)) ≡ after
 
 pub record HandsOver (asker : Itsi) (group : Identity) (owners : Numbers) (before after : Contents) (reply : Reply) : Type 0 where
@@ -93,15 +91,15 @@ pub record Defines (asker : Itsi) (values : Record) (room sent : Rows) (before a
   pub ends : contents (now (left .0)) (now (left .1 .0)) (now (left .1 .1 .0)) ≡ after
   pub sends : now (left .1 .1 .1 .1 .1 .0) ≡ sent
 
-pub record Deletes (asker : Itsi) (named : Numbers) (remove deassign : Bool) (radios : Listed) (room sent : Rows) (before after : Contents)
-    (reply : Sent) : Type 0 where
+pub record Deletes (d : Deletion) (room sent : Rows) (before after : Contents) (reply : Sent) : Type 0 where
   pub lifetimes : Lfts 4
   pub lent : Storage
   pub out : RefT Rows
   pub left : AtExit (endedOf 4 delete-kinds.ps delete-kinds.r) lifetimes
   pub starts : held lent ≡ before
   pub roomed : now out ≡ room
-  pub meets : delete.Post lifetimes (lent .head, (lent .groups, (lent .pairs, (asker, (named, (remove, (deassign, (radios, (out, tt))))))))) reply left
+  pub meets : delete.Post lifetimes
+      (lent .head, (lent .groups, (lent .pairs, (d .asker, (d .named, (d .remove, (d .deassign, (d .radios, (out, tt))))))))) reply left
   pub ends : contents (now (left .0)) (now (left .1 .0)) (now (left .1 .1 .0)) ≡ after
   pub sends : now (left .1 .1 .1 .1 .1 .1 .1 .1 .0) ≡ sent
 

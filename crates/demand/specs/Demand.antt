@@ -16,7 +16,7 @@ use Rattle.rules.specs.Run.{run}
 use Rattle.rules.specs.Demand.{Owns, told, Exactly, Tells}
 use Rattle.rows.specs.Layout.{entryRadio, entryState}
 use Rattle.order.specs.Numbers.{radioNumber, askedNumber}
-use Rattle.order.specs.Steps.{answerStep, handoverStep, defineStep, deleteStep}
+use Rattle.order.specs.Steps.{handoverStep, defineStep}
 use Rattle.order.specs.Walks.{onto}
 use Rattle.store.specs.Storage.{Rows, Contents, placing, ledgerOf}
 use Rattle.store.specs.Form.{isWritten}
@@ -24,12 +24,10 @@ use Rattle.replies.specs.Orders.{replyOf}
 use Rattle.replies.specs.Sending.{orderRow, sentReply}
 use Rattle.replies.specs.Listing.{entryRow, membersOf}
 use Rattle.replies.specs.Showing.{shownAs, shownOf}
-use Rattle.order.specs.declared.Gtsi.{Gtsi}
 use Rattle.order.specs.declared.Itsi.{Itsi}
 use Rattle.order.specs.declared.Identity.{Identity}
 use Rattle.order.specs.declared.GroupAsked.{GroupAsked}
 use Rattle.order.specs.declared.Numbers.{Numbers}
-use Rattle.order.specs.declared.Listed.{Listed}
 use Rattle.replies.specs.declared.Reply.{Reply}
 use Rattle.replies.specs.declared.Reply.the-variants.{Done, Refused}
 use Rattle.replies.specs.declared.Sent.{Sent}
@@ -37,6 +35,7 @@ use Rattle.replies.specs.declared.Sent.the-variants as sending
 use Rattle.replies.specs.declared.Members.{Members}
 use Rattle.replies.specs.declared.Members.the-variants as members
 use Rattle.replies.specs.declared.Shown.{Shown}
+use Rattle.demand.specs.Arguments.{Deletion, Answering, deletionStep, answeringStep}
 use Rattle.demand.specs.Calls.{Empties, Ticks, Answers, HandsOver, Defines, Deletes, Lists, Shows}
 
 -- the state in the first row that has both parts of a number
@@ -75,12 +74,10 @@ pub record Faithful (c : Contents) (h : History) : Type 0 where
       → Defines asker values room sent c c′ reply
       → let s = defineStep asker (values .place) (length room) in
       (reply ≡ sentReply (refusalIn h s) (length (sentIn h s))) × (sent ≡ onto (map orderRow (sentIn h s)) room)
-  pub deletes : {asker : Itsi} {named : Numbers} {remove deassign : Bool} {radios : Listed} {room sent : Rows} {c′ : Contents} {reply : Sent}
-      → Deletes asker named remove deassign radios room sent c c′ reply
-      → let s = deleteStep asker named remove deassign radios (length room) in
+  pub deletes : {d : Deletion} {room sent : Rows} {c′ : Contents} {reply : Sent} → Deletes d room sent c c′ reply
+      → let s = deletionStep d (length room) in
       (reply ≡ sentReply (refusalIn h s) (length (sentIn h s))) × (sent ≡ onto (map orderRow (sentIn h s)) room)
-  pub answers : {radio : Itsi} {group : Gtsi} {result : ℕ} {c′ : Contents} {reply : Reply}
-      → Answers radio group result c c′ reply → reply ≡ replyOf (refusalIn h (answerStep radio group result))
+  pub answers : {a : Answering} {c′ : Contents} {reply : Reply} → Answers a c c′ reply → reply ≡ replyOf (refusalIn h (answeringStep a))
   pub handsOver : {asker : Itsi} {group : Identity} {owners : Numbers} {c′ : Contents} {reply : Reply}
       → HandsOver asker group owners c c′ reply → reply ≡ replyOf (refusalIn h (handoverStep asker group owners))
   pub ticks : {c′ : Contents} {reply : Reply} → Ticks c c′ reply → reply ≡ Done
@@ -104,9 +101,8 @@ pub record Faithful (c : Contents) (h : History) : Type 0 where
 pub record Never18 (c : Contents) : Type 0 where
   pub defines : {asker : Itsi} {values : Record} {room sent : Rows} {c′ : Contents}
       → Defines asker values room sent c c′ (sending.Refused NotWritten) → ⊥
-  pub deletes : {asker : Itsi} {named : Numbers} {remove deassign : Bool} {radios : Listed} {room sent : Rows} {c′ : Contents}
-      → Deletes asker named remove deassign radios room sent c c′ (sending.Refused NotWritten) → ⊥
-  pub answers : {radio : Itsi} {group : Gtsi} {result : ℕ} {c′ : Contents} → Answers radio group result c c′ (Refused NotWritten) → ⊥
+  pub deletes : {d : Deletion} {room sent : Rows} {c′ : Contents} → Deletes d room sent c c′ (sending.Refused NotWritten) → ⊥
+  pub answers : {a : Answering} {c′ : Contents} → Answers a c c′ (Refused NotWritten) → ⊥
   pub handsOver : {asker : Itsi} {group : Identity} {owners : Numbers} {c′ : Contents} → HandsOver asker group owners c c′ (Refused NotWritten) → ⊥
   pub ticks : {c′ : Contents} → Ticks c c′ (Refused NotWritten) → ⊥
   pub lists : {asker : Itsi} {asked : GroupAsked} {room listed : Rows} → Lists asker asked room listed c (members.Refused NotWritten) → ⊥

@@ -1,4 +1,5 @@
 -- What is stated over runs of calls.
+pub mod Arguments
 pub mod Calls
 pub mod Runs
 pub mod Demand

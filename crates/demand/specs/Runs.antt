@@ -1,21 +1,18 @@
 -- A run of calls from an empty ledger, each on the contents that the one before it left; and the run's history: what the
 -- calls asked for, refused ones among them. A list and a show change nothing of the ledger, so they may stand anywhere.
-use mathlib.Core.Bool.{Bool}
-use Prim.Native.Nat.{ℕ}
 use lib.ListN.{length}
 use Rattle.layout.specs.declared.Record.{Record}
 use Rattle.rules.specs.Order.{tick}
 use Rattle.rules.specs.History.{History, start, _then_}
-use Rattle.order.specs.Steps.{answerStep, handoverStep, defineStep, deleteStep}
+use Rattle.order.specs.Steps.{handoverStep, defineStep}
 use Rattle.store.specs.Storage.{Rows, Contents}
-use Rattle.order.specs.declared.Gtsi.{Gtsi}
 use Rattle.order.specs.declared.Itsi.{Itsi}
 use Rattle.order.specs.declared.Identity.{Identity}
 use Rattle.order.specs.declared.Numbers.{Numbers}
-use Rattle.order.specs.declared.Listed.{Listed}
 use Rattle.replies.specs.declared.Reply.{Reply}
 use Rattle.replies.specs.declared.Reply.the-variants.{Done}
 use Rattle.replies.specs.declared.Sent.{Sent}
+use Rattle.demand.specs.Arguments.{Deletion, Answering, deletionStep, answeringStep}
 use Rattle.demand.specs.Calls.{Empties, Ticks, Answers, HandsOver, Defines, Deletes}
 
 -- the contents after a run, and its history. An order stands in the history whatever its reply was
@@ -23,11 +20,10 @@ pub data Kept : Contents → History → Type 0 where
   begun : {c c′ : Contents} → Empties c c′ Done → Kept c′ start
   defined : {c c′ : Contents} {h : History} {asker : Itsi} {values : Record} {room sent : Rows} {reply : Sent}
       → Kept c h → Defines asker values room sent c c′ reply → Kept c′ (h then defineStep asker (values .place) (length room))
-  deleted : {c c′ : Contents} {h : History} {asker : Itsi} {named : Numbers} {remove deassign : Bool} {radios : Listed} {room sent : Rows} {reply : Sent}
-      → Kept c h → Deletes asker named remove deassign radios room sent c c′ reply
-      → Kept c′ (h then deleteStep asker named remove deassign radios (length room))
-  answered : {c c′ : Contents} {h : History} {radio : Itsi} {group : Gtsi} {result : ℕ} {reply : Reply}
-      → Kept c h → Answers radio group result c c′ reply → Kept c′ (h then answerStep radio group result)
+  deleted : {c c′ : Contents} {h : History} {d : Deletion} {room sent : Rows} {reply : Sent}
+      → Kept c h → Deletes d room sent c c′ reply → Kept c′ (h then deletionStep d (length room))
+  answered : {c c′ : Contents} {h : History} {a : Answering} {reply : Reply}
+      → Kept c h → Answers a c c′ reply → Kept c′ (h then answeringStep a)
   handedOver : {c c′ : Contents} {h : History} {asker : Itsi} {group : Identity} {owners : Numbers} {reply : Reply}
       → Kept c h → HandsOver asker group owners c c′ reply → Kept c′ (h then handoverStep asker group owners)
   ticked : {c c′ : Contents} {h : History} {reply : Reply}

@@ -1,0 +1,28 @@
+-- What a delete and an answer are called with, besides what is lent; and the steps that they are.
+use mathlib.Core.Bool.{Bool}
+use Prim.Native.Nat.{ℕ}
+use Rattle.rules.specs.Order.{Step}
+use Rattle.order.specs.Steps.{answerStep, deleteStep}
+use Rattle.order.specs.declared.Gtsi.{Gtsi}
+use Rattle.order.specs.declared.Itsi.{Itsi}
+use Rattle.order.specs.declared.Numbers.{Numbers}
+use Rattle.order.specs.declared.Listed.{Listed}
+
+pub record Deletion : Type 0 where
+  pub asker : Itsi
+  pub named : Numbers
+  pub remove : Bool
+  pub deassign : Bool
+  pub radios : Listed
+
+pub record Answering : Type 0 where
+  pub radio : Itsi
+  pub group : Gtsi
+  pub result : ℕ
+
+-- the number is the room for what goes out
+abbrev pub deletionStep : Deletion → ℕ → Step
+deletionStep d room = deleteStep (d .asker) (d .named) (d .remove) (d .deassign) (d .radios) room
+
+abbrev pub answeringStep : Answering → Step
+answeringStep a = answerStep (a .radio) (a .group) (a .result)
