@@ -10,8 +10,8 @@ use lib.Seq.{slice, slice-empty}
 use borrow.Author.Tests.{le-ltb, leb-true}
 use Rattle.order.specs.declared.Identity.{Identity}
 use Rattle.words.specs.declared.Taken.{Taken}
-use Rattle.words.specs.Character.{blank, comma, hyphen, slash, colon, letterN, letterY}
-use Rattle.words.specs.Words.{nowhere, standsAt, markAt, bad, wordOf, enoughAt, digitsAt, wordAt, numberAt, groupAt, roomAt, choiceAt}
+use Rattle.words.specs.Character.{blank, comma, hyphen, slash, colon}
+use Rattle.words.specs.Words.{nowhere, standsAt, markAt, bad, wordOf, enoughAt, digitsAt, wordAt, numberAt, groupAt, roomAt, eitherAt}
 use Rattle.words.specs.Series.{itemAt, listFrom, seriesAt, seriesOrNoneAt}
 use Rattle.words.proofs.Words.{enough-within}
 
@@ -67,9 +67,9 @@ module _ (line : List ℕ) (any : length line ≤ nowhere) where
   unfolding roomAt
   room-nowhere = same (leb ((wordAt line nowhere 4) .value) 2048) (wordAt line nowhere 4) bad nowhere (word-nowhere 4) refl
 
-  pub choice-nowhere : (choiceAt line nowhere) .next ≡ nowhere
-  unfolding choiceAt
-  choice-nowhere = rw (mark-nowhere blank, stands-nowhere letterY) (mark-nowhere letterN)
+  pub either-nowhere : (one other : ℕ) → (eitherAt line nowhere one other) .next ≡ nowhere
+  unfolding eitherAt
+  either-nowhere one other = rw (mark-nowhere blank, stands-nowhere one) (mark-nowhere other)
 
   item-nowhere : (count : ℕ) → itemAt line nowhere count ≡ nowhere
   unfolding itemAt

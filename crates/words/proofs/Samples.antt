@@ -5,7 +5,7 @@ use Prim.Native.Nat.{ℕ}
 use lib.ListN.{length, replicate}
 use Rattle.house.specs.Hex.{digitValue}
 use Rattle.order.specs.declared.GroupAsked.the-variants.{Whole, Plain}
-use Rattle.words.specs.Words.{standsAt, markAt, bad, enoughAt, digitsAt, numberAt, groupAt, roomAt, choiceAt}
+use Rattle.words.specs.Words.{standsAt, markAt, bad, enoughAt, digitsAt, numberAt, groupAt, roomAt, eitherAt, choiceAt}
 use Rattle.words.specs.Series.{identityWith, nobody, namedAt, itemAt, listed, listFrom, seriesAt, noList, seriesOrNoneAt}
 
 -- so many zeros
@@ -46,7 +46,7 @@ unfolding seriesAt listFrom itemAt namedAt identityWith digitsAt enoughAt markAt
 list-sample = refl
 
 pub choice-sample : choiceAt line 46 ≡ record { value = 1; next = 48 }
-unfolding choiceAt markAt standsAt
+unfolding eitherAt markAt standsAt
 choice-sample = refl
 
 pub none-sample : seriesOrNoneAt line 50 ≡ noList (length line)

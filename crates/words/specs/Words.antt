@@ -74,8 +74,12 @@ groupAt line at =
 unfoldable pub roomAt : List ℕ → ℕ → Taken
 roomAt line at = let size = wordAt line at 4 in cond (leb (size .value) 2048) size bad
 
--- a blank and Y, which is 1, or N, which is 0
-unfoldable pub choiceAt : List ℕ → ℕ → Taken
-choiceAt line at =
+-- a blank and one of two characters: 1 for the first, 0 for the second
+unfoldable pub eitherAt : List ℕ → ℕ → ℕ → ℕ → Taken
+eitherAt line at one other =
     let from = markAt line at blank in
-    cond (standsAt line from letterY) (record { value = 1; next = markAt line from letterY }) (record { value = 0; next = markAt line from letterN })
+    cond (standsAt line from one) (record { value = 1; next = markAt line from one }) (record { value = 0; next = markAt line from other })
+
+-- a blank and Y, which is 1, or N, which is 0
+abbrev pub choiceAt : List ℕ → ℕ → Taken
+choiceAt line at = eitherAt line at letterY letterN

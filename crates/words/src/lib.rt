@@ -8,7 +8,7 @@ use order::Numbers;
 ghost use Prim.Native.Nat.{_≤_};
 ghost use mathlib.Core.Path.{_≡_};
 ghost use Rattle.house.specs.Hex.{digitValue};
-ghost use Rattle.words.specs.Words.{standsAt, markAt, bad, enoughAt, digitsAt, shortAt, wordAt, numberAt, groupAt, roomAt, choiceAt};
+ghost use Rattle.words.specs.Words.{standsAt, markAt, bad, enoughAt, digitsAt, shortAt, wordAt, numberAt, groupAt, roomAt, eitherAt, choiceAt};
 ghost use Rattle.words.specs.Series.{identityWith, namedAt, identityAt, itemAt, seriesAt, noList, seriesOrNoneAt};
 
 // The place behind a bad word: past the end of every line.
@@ -198,21 +198,28 @@ pub fn room(line: &[u8], at: usize) -> Taken
     bad_word()
 }
 
-// A blank and Y, which is 1, or N, which is 0.
-pub fn choice(line: &[u8], at: usize) -> Taken
-    ensures { λ r. ⌜ r ≡ choiceAt (now (line .entry)) at ⌝ }
+// A blank and one of two characters: 1 for the first, 0 for the second.
+fn either(line: &[u8], at: usize, one: u8, other: u8) -> Taken
+    ensures { λ r. ⌜ r ≡ eitherAt (now (line .entry)) at one other ⌝ }
 {
     let from = mark(line, at, b' ');
-    if stands(line, from, b'Y') {
+    if stands(line, from, one) {
         return Taken {
             value: 1,
-            next: mark(line, from, b'Y'),
+            next: mark(line, from, one),
         };
     }
     Taken {
         value: 0,
-        next: mark(line, from, b'N'),
+        next: mark(line, from, other),
     }
+}
+
+// A blank and Y, which is 1, or N, which is 0.
+pub fn choice(line: &[u8], at: usize) -> Taken
+    ensures { λ r. ⌜ r ≡ choiceAt (now (line .entry)) at ⌝ }
+{
+    either(line, at, b'Y', b'N')
 }
 
 // The identity that a form and two values make: the first is the SNA in form 0, else the SSI.
