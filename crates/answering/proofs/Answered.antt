@@ -11,6 +11,7 @@ use lib.Seq.{set-getD}
 use Rattle.rules.specs.Entries.{alter}
 use Rattle.rules.specs.Mark.{Mark, ticked, answered, open?}
 use Rattle.rules.specs.Number.{key}
+use Rattle.rules.specs.declared.AnswerKind.{AnswerKind}
 use Rattle.rules.specs.Order.{tick}
 use Rattle.rules.specs.Effect.{effect, only}
 use Rattle.rules.specs.Ledger.{Pair, samePair, empty, view}
@@ -37,13 +38,13 @@ use Rattle.store.proofs.FormLaws.{Room, pairs-rise}
 use Rattle.store.proofs.HalvingLaws.{item-at}
 use Rattle.store.proofs.PlaceLaws.{InRows, in-rows}
 use Rattle.replies.proofs.Orders.{alter-length, head-counts, set-both, count-groups, count-pairs, groups-stay}
-use Rattle.answering.specs.Answers.{foundOpen, settled}
+use Rattle.answering.specs.Answers.{asMark, settled}
 use Rattle.answering.proofs.OneEntry.{alter-one-entry}
 
 -- what is found open is open
-pub found-open : (o : Option Mark) → foundOpen (foundOf o) ≡ open? o
-found-open none = refl
-found-open (some m) = refl
+pub found-open : (kind : AnswerKind) (o : Option Mark) → open? kind (asMark (foundOf o)) ≡ open? kind o
+found-open kind none = refl
+found-open kind (some m) = refl
 
 -- ---- an order that changes pairs alone ----
 
@@ -80,37 +81,37 @@ module _ (c : Contents) (w : Sound c) where
   pair-in-rows = in-rows pairs-linear pairOf (c .pairs) (pairCount c) (omega (arith, w .pairs, w .fewPairs)) (pairs-rise c w)
 
   -- the pair at its place is the one that an answer turns
-  answered-one : (k : Pair) (result i : ℕ) → At i ≡ placeOf belowPair samePair (pairsOf (pairCount c) (c .pairs)) k
-      → alter (λ (j : Pair) m. cond (samePair j k) (answered result) (some m)) (pairsOf (pairCount c) (c .pairs))
-      ≡ settled (pairOf (getD (c .pairs) i []) .0) result i (pairsOf (pairCount c) (c .pairs))
-  answered-one k result i e =
+  answered-one : (k : Pair) (left : Option Mark) (i : ℕ) → At i ≡ placeOf belowPair samePair (pairsOf (pairCount c) (c .pairs)) k
+      → alter (λ (j : Pair) m. cond (samePair j k) left (some m)) (pairsOf (pairCount c) (c .pairs))
+      ≡ settled (pairOf (getD (c .pairs) i []) .0) left i (pairsOf (pairCount c) (c .pairs))
+  answered-one k left i e =
       let l = pairsOf (pairCount c) (c .pairs) in
       let s = pair-in-rows (At i) k e in
       let n = count-pairs c w in
       let x : (j : ℕ) → j < pairCount c → getD l j (pairOf []) .0 ≡ pairOf (getD (c .pairs) j []) .0 =
       λ j h. ap (λ (z : Pair × Mark). z .0) (item-at pairOf (c .pairs) (pairCount c) j h) in
-      alter-one-entry (λ j. samePair j k) (answered result) (pairOf []) l i (omega (arith, s .inside))
+      alter-one-entry (λ j. samePair j k) left (pairOf []) l i (omega (arith, s .inside))
       (λ j h. rw (x j (omega (arith, s .inside))) (apart pairs-linear (pairOf (getD (c .pairs) j []) .0) k (s .before j h)))
       (ap (λ (z : Pair). samePair z k) (x i (s .inside) ∙ s .is) ∙ pairs-linear .itself k)
       (λ j h m. let q : j < pairCount c = omega arith in
       rw (x j q) (apart-back pairs-linear k (pairOf (getD (c .pairs) j []) .0) (s .behind j h q)))
       ∙ rw (x i (s .inside), add-one)
 
-  pub answered-laid : (radio : Itsi) (group : Gtsi) (result i n : ℕ) (rows : List (List ℕ))
+  pub answered-laid : (radio : Itsi) (group : Gtsi) (kind : AnswerKind) (result i n : ℕ) (rows : List (List ℕ))
       → At i ≡ placeOf belowPair samePair (pairsOf (pairCount c) (c .pairs)) (pairNamed radio group)
-      → Fills pairRow (settled (pairOf (getD (c .pairs) i []) .0) result i (pairsOf (pairCount c) (c .pairs))) (c .pairs) rows n
-      → contents (set (c .head) 1 n) (c .groups) rows ≡ laid (apply placing (ledgerOf c) (effect (view (ledgerOf c)) (answerStep radio group result))) c
-  answered-laid radio group result i n rows e f =
-      let q = sym (answered-one (pairNamed radio group) result i e) in
-      turned-laid c w (λ g r m. cond (samePair (g, r) (pairNamed radio group)) (answered result) (some m)) n rows (f .counts ∙ ap length q)
+      → Fills pairRow (settled (pairOf (getD (c .pairs) i []) .0) (answered kind result) i (pairsOf (pairCount c) (c .pairs))) (c .pairs) rows n
+      → contents (set (c .head) 1 n) (c .groups) rows ≡ laid (apply placing (ledgerOf c) (effect (view (ledgerOf c)) (answerStep radio group kind result))) c
+  answered-laid radio group kind result i n rows e f =
+      let q = sym (answered-one (pairNamed radio group) (answered kind result) i e) in
+      turned-laid c w (λ g r m. cond (samePair (g, r) (pairNamed radio group)) (answered kind result) (some m)) n rows (f .counts ∙ ap length q)
       (f .rows ∙ ap (λ (z : List (Pair × Mark)). onto (map pairRow z) (c .pairs)) q)
 
   -- an answer of a pair that is not there is refused
-  pub no-pair-refused : {P : Type 0} (radio : Itsi) (group : Gtsi) (result i : ℕ)
+  pub no-pair-refused : {P : Type 0} (radio : Itsi) (group : Gtsi) (kind : AnswerKind) (result i : ℕ)
       → Free i ≡ placeOf belowPair samePair (pairsOf (pairCount c) (c .pairs)) (pairNamed radio group)
-      → refused placing (ledgerOf c) (answerStep radio group result) ≡ none → P
-  no-pair-refused radio group result i e t =
-      let s = answerStep radio group result in
+      → refused placing (ledgerOf c) (answerStep radio group kind result) ≡ none → P
+  no-pair-refused radio group kind result i e t =
+      let s = answerStep radio group kind result in
       let v = view (ledgerOf c) in
       let q = tests-pass (tests v (tally placing (ledgerOf c) (effect v s)) s) t 2 in
       let f = pair-in-rows (Free i) (pairNamed radio group) e .found in

@@ -12,6 +12,8 @@ use replies::Reply;
 use rows::CONFIRMED;
 use rows::GROUP_COUNT;
 use rows::GROUP_WORDS;
+use rows::LEAVING;
+use rows::LEAVING_UNHEARD;
 use rows::MAX_NUMBERS;
 use rows::PAIR_COUNT;
 use rows::PAIR_GROUP;
@@ -19,6 +21,8 @@ use rows::PAIR_RADIO;
 use rows::PAIR_WORDS;
 use rows::UNHEARD;
 use rows::WAITING;
+use rows::WOULD_NOT_LEAVE;
+use rules::AnswerKind;
 use store::Found;
 use store::Place;
 use store::form::roomy;
@@ -33,17 +37,18 @@ ghost use Prim.Native.Nat.{_≤_, _<_};
 ghost use lib.ListN.{length, getD};
 ghost use mathlib.Core.List.{[]};
 ghost use mathlib.Core.Path.{_≡_};
+ghost use Rattle.rules.specs.Mark.{open?, answered};
 ghost use Rattle.rules.specs.Order.{tick};
 ghost use Rattle.order.specs.Steps.{answerStep};
 ghost use Rattle.store.specs.Lists.{Fills, Plain};
 ghost use Rattle.store.specs.Storage.{contents, pairOf, pairRow, pairsOf};
 ghost use Rattle.replies.specs.Orders.{Begins, Judges, Replies};
-ghost use Rattle.answering.specs.Answers.{foundOpen, settled, closed};
+ghost use Rattle.answering.specs.Answers.{asMark, settled, closed};
 
 // The most that a result can be.
 const LAST_RESULT: u64 = 4;
 
-// The result by which a radio confirms.
+// The result by which a radio accepts.
 const ACCEPTED: u64 = 1;
 
 // An empty ledger over any contents.
@@ -59,7 +64,7 @@ pub fn empty(head: &mut [u64], groups: &[[u64; GROUP_WORDS]], pairs: &[[u64; PAI
     Reply::Done
 }
 
-// One tick: every waiting pair counts one.
+// One tick: every waiting or leaving pair counts one.
 pub fn tick(head: &[u64], groups: &[[u64; GROUP_WORDS]], pairs: &mut [[u64; PAIR_WORDS]]) -> Reply
     ensures { λ r. ⌜ Replies tick (contents (now (head .entry)) (now (groups .entry)) (now (pairs .entry)))
         (contents (now (head .entry)) (now (groups .entry)) (now (pairs .exit))) r ⌝ }
@@ -87,14 +92,17 @@ pub fn tick(head: &[u64], groups: &[[u64; GROUP_WORDS]], pairs: &mut [[u64; PAIR
     Reply::Done
 }
 
-// Whether a pair is found, and open.
-fn is_open(found: Found) -> bool
-    ensures { λ r. ⌜ r ≡ foundOpen found ⌝ }
+// Whether a pair is found, and open for an answer of this kind.
+fn is_open(kind: AnswerKind, found: Found) -> bool
+    ensures { λ r. ⌜ r ≡ open? kind (asMark found) ⌝ }
 {
     let Found::Held(state) = found else {
         return false;
     };
-    (state == WAITING) | (state == UNHEARD)
+    match kind {
+        AnswerKind::Assignment => (state == WAITING) | (state == UNHEARD),
+        AnswerKind::Deassignment => (state == LEAVING) | (state == LEAVING_UNHEARD),
+    }
 }
 
 // What an answer is refused with.
@@ -104,9 +112,10 @@ fn answer_fault(
     pairs: &[[u64; PAIR_WORDS]],
     radio: Itsi,
     group: Gtsi,
+    kind: AnswerKind,
     result: u64,
 ) -> Reply
-    ensures { λ r. ⌜ Judges (contents (now (head .entry)) (now (groups .entry)) (now (pairs .entry))) (answerStep radio group result) r ⌝ }
+    ensures { λ r. ⌜ Judges (contents (now (head .entry)) (now (groups .entry)) (now (pairs .entry))) (answerStep radio group kind result) r ⌝ }
 {
     if !written(head, groups, pairs) {
         return Reply::Refused(Refusal::NotWritten);
@@ -120,12 +129,13 @@ fn answer_fault(
     if !stands(group_place(groups, group_count as usize, group_key(group))) {
         return Reply::Refused(Refusal::NoSuchGroup);
     }
-    if !is_open(find(
+    let found = find(
         pairs,
         pair_count as usize,
         group_key(group),
         radio_key(radio),
-    )) {
+    );
+    if !is_open(kind, found) {
         return Reply::Refused(Refusal::NotOpen);
     }
     Reply::Done
@@ -144,34 +154,55 @@ fn close_gap(pairs: &mut [[u64; PAIR_WORDS]], at: usize, count: usize)
     }
 }
 
-// Result 1 confirms the pair at a place; 2, 3 and 4 take it away. The new count is returned.
-fn settle(pairs: &mut [[u64; PAIR_WORDS]], count: usize, at: usize, result: u64) -> usize
-    requires { ⌜ (at < count) × (count ≤ length (now pairs)) × Plain pairOf pairRow count (now pairs) ⌝ }
-    ensures { λ r. ⌜ Fills pairRow (settled (pairOf (getD (now (pairs .entry)) at []) .0) result at (pairsOf count (now (pairs .entry))))
-        (now (pairs .entry)) (now (pairs .exit)) r ⌝ }
+// What an answer makes of its pair: the state that it has then, or nothing.
+fn outcome(kind: AnswerKind, result: u64) -> Found
+    ensures { λ r. ⌜ asMark r ≡ answered kind result ⌝ }
 {
-    if result == ACCEPTED {
-        let row = pairs[at];
-        pairs[at] = [row[PAIR_GROUP], row[PAIR_RADIO], CONFIRMED, 0];
-        return count;
+    match kind {
+        AnswerKind::Assignment => {
+            if result == ACCEPTED {
+                return Found::Held(CONFIRMED);
+            }
+            Found::Nothing
+        }
+        AnswerKind::Deassignment => {
+            if result == ACCEPTED {
+                return Found::Nothing;
+            }
+            Found::Held(WOULD_NOT_LEAVE)
+        }
     }
-    close_gap(pairs, at, count);
-    count - 1
 }
 
-// A radio's answer to its assignment.
+// The pair at a place has its state then, with no ticks, or is taken away. The new count is returned.
+fn settle(pairs: &mut [[u64; PAIR_WORDS]], count: usize, at: usize, left: Found) -> usize
+    requires { ⌜ (at < count) × (count ≤ length (now pairs)) × Plain pairOf pairRow count (now pairs) ⌝ }
+    ensures { λ r. ⌜ Fills pairRow (settled (pairOf (getD (now (pairs .entry)) at []) .0) (asMark left) at (pairsOf count (now (pairs .entry))))
+        (now (pairs .entry)) (now (pairs .exit)) r ⌝ }
+{
+    let Found::Held(state) = left else {
+        close_gap(pairs, at, count);
+        return count - 1;
+    };
+    let row = pairs[at];
+    pairs[at] = [row[PAIR_GROUP], row[PAIR_RADIO], state, 0];
+    count
+}
+
+// A radio's answer to its assignment or its deassignment.
 pub fn answer(
     head: &mut [u64],
     groups: &[[u64; GROUP_WORDS]],
     pairs: &mut [[u64; PAIR_WORDS]],
     radio: Itsi,
     group: Gtsi,
+    kind: AnswerKind,
     result: u64,
 ) -> Reply
-    ensures { λ r. ⌜ Replies (answerStep radio group result) (contents (now (head .entry)) (now (groups .entry)) (now (pairs .entry)))
+    ensures { λ r. ⌜ Replies (answerStep radio group kind result) (contents (now (head .entry)) (now (groups .entry)) (now (pairs .entry)))
         (contents (now (head .exit)) (now (groups .entry)) (now (pairs .exit))) r ⌝ }
 {
-    let fault = answer_fault(head, groups, pairs, radio, group, result);
+    let fault = answer_fault(head, groups, pairs, radio, group, kind, result);
     let Reply::Done = fault else {
         return fault;
     };
@@ -179,7 +210,8 @@ pub fn answer(
     let Place::At(i) = pair_place(pairs, count as usize, group_key(group), radio_key(radio)) else {
         return fault;
     };
-    let kept = settle(pairs, count as usize, i, result);
+    let left = outcome(kind, result);
+    let kept = settle(pairs, count as usize, i, left);
     head[PAIR_COUNT] = kept as u64;
     Reply::Done
 }

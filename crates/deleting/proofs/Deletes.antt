@@ -9,7 +9,8 @@ use lib.ListN.{length, set}
 use Rattle.refusal.specs.declared.Refusal.{Refusal}
 use Rattle.rules.specs.Lists.{present, mem, join}
 use Rattle.rules.specs.Entries.{alter}
-use Rattle.rules.specs.Mark.{Mark}
+use Rattle.rules.specs.Mark.{Mark, fresh}
+use Rattle.rules.specs.Mark as mark
 use Rattle.rules.specs.Number.{key}
 use Rattle.rules.specs.Named.{numbersIn, tooMany, maxNumbers}
 use Rattle.rules.specs.Order.{Step}
@@ -38,10 +39,10 @@ use Rattle.replies.specs.Orders.{replyOf, verdict}
 use Rattle.replies.specs.declared.Reply.{Reply}
 use Rattle.replies.specs.declared.Reply.the-variants.{Done, Refused}
 use Rattle.replies.proofs.Orders.{set-both, form-refuses, stand-tells, alter-same}
-use Rattle.turning.specs.Turns.{turnOf}
-use Rattle.turning.specs.declared.Turn.the-variants.{Remove}
+use Rattle.turning.specs.Turns.{staysOf, markOf, turnOf}
+use Rattle.turning.specs.declared.Turn.the-variants.{Remove, Leave}
 use Rattle.deleting.specs.Leaving.{among, leaving, leavingOrders}
-use Rattle.deleting.specs.Deletes.{formTests, standTests, groupsLeft, pairsLeft}
+use Rattle.deleting.specs.Deletes.{formTests, standTests, parting, groupsLeft, pairsLeft}
 
 given-present : {A : Type 0} (b : Bool) (x : A) → present (cond b (some x) none) ≡ b
 given-present true x = refl
@@ -63,7 +64,8 @@ module _ (c : Contents) (w : Sound c) where
       (sym (stretch-members (ledgerOf c) g (pairs-rise c w)))
 
   -- the groups are a list that is given
-  module _ (asker : Itsi) (named : Listed) (given : named .given ≡ true) (remove deassign : Bool) (radios : Listed) (room : ℕ) where
+  module _ (asker : Itsi) (named : Listed) (given : named .given ≡ true) (remove deassign : Bool) (radios : Listed) (acknowledgement : Bool)
+      (room : ℕ) where
     -- the groups and the radios that it names
     abbrev gs : List ℕ
     gs = numbersIn (asker .1) (listOf named)
@@ -72,7 +74,7 @@ module _ (c : Contents) (w : Sound c) where
     rs = numbersIn (asker .1) (listOf radios)
 
     abbrev pub step : Step
-    step = deleteStep asker (named .numbers) remove deassign radios room
+    step = deleteStep asker (named .numbers) remove deassign radios acknowledgement room
 
     abbrev pub forms : List (Refusal × Bool)
     forms = formTests asker named deassign radios
@@ -129,20 +131,24 @@ module _ (c : Contents) (w : Sound c) where
 
 -- ---- what is left ----
 
--- the pairs: those of the groups, or of the groups and the radios, go
+-- the pairs: those of the groups, or of the groups and the radios, are leaving or go
 module _ (m : Mark) where
-  goes : (x : Bool) → cond (not x) (some m) none ≡ cond x none (some m)
-  goes true = refl
-  goes false = refl
+  -- whether they stay, leaving, and whether the pair is one of them
+  turns : (leave x : Bool) → cond (staysOf (cond leave Leave Remove) x) (some (markOf (cond leave Leave Remove) x m)) none
+      ≡ cond x (cond leave (some (fresh mark.leaving)) none) (some m)
+  turns true true = refl
+  turns true false = refl
+  turns false true = refl
+  turns false false = refl
 
-  deleted-turn : (remove deassign : Bool) → (not remove && not deassign) ≡ false → (listed : Bool) (gs rs : List ℕ) (k : Pair)
-      → turnOf Remove gs (listed && not remove) rs k m
-      ≡ cond (mem (k .0) gs && (remove || (deassign && cond listed (mem (k .1) rs) true))) none (some m)
-  deleted-turn true deassign e true gs rs k = goes (mem (k .0) gs && true)
-  deleted-turn true deassign e false gs rs k = goes (mem (k .0) gs && true)
-  deleted-turn false true e true gs rs k = goes (mem (k .0) gs && mem (k .1) rs)
-  deleted-turn false true e false gs rs k = goes (mem (k .0) gs && true)
-  deleted-turn false false e listed gs rs k = absurd (true≢false e)
+  deleted-turn : (remove deassign : Bool) → (not remove && not deassign) ≡ false → (listed : Bool) (gs rs : List ℕ) (ack : Bool) (k : Pair)
+      → turnOf (parting remove ack) gs (listed && not remove) rs k m
+      ≡ cond (mem (k .0) gs && (remove || (deassign && cond listed (mem (k .1) rs) true))) (cond (not remove && ack) (some (fresh mark.leaving)) none) (some m)
+  deleted-turn true deassign e true gs rs ack k = turns false (mem (k .0) gs && true)
+  deleted-turn true deassign e false gs rs ack k = turns false (mem (k .0) gs && true)
+  deleted-turn false true e true gs rs ack k = turns ack (mem (k .0) gs && mem (k .1) rs)
+  deleted-turn false true e false gs rs ack k = turns ack (mem (k .0) gs && true)
+  deleted-turn false false e listed gs rs ack k = absurd (true≢false e)
 
 -- the groups: those named go where the delete says so
 deleted-groups : (remove : Bool) (named : List ℕ) (l : List (ℕ × Group))
@@ -150,23 +156,24 @@ deleted-groups : (remove : Bool) (named : List ℕ) (l : List (ℕ × Group))
 deleted-groups true named l = refl
 deleted-groups false named l = sym (alter-all l)
 
-module _ (c : Contents) (w : Sound c) (asker : Itsi) (named : Listed) (given : named .given ≡ true) (remove deassign : Bool) (radios : Listed) (room : ℕ)
-    (some-work : (not remove && not deassign) ≡ false) where
+module _ (c : Contents) (w : Sound c) (asker : Itsi) (named : Listed) (given : named .given ≡ true) (remove deassign : Bool) (radios : Listed)
+    (acknowledgement : Bool) (room : ℕ) (some-work : (not remove && not deassign) ≡ false) where
   pub deleted-laid : (n m : ℕ) (groups pairs : Rows)
       → let gs = numbersIn (asker .1) (listOf named) in
       let rs = numbersIn (asker .1) (listOf radios) in
       Fills groupRow (groupsLeft gs remove (ledgerOf c .groups)) (c .groups) groups n
-      → Fills pairRow (pairsLeft gs remove (radios .given) rs (ledgerOf c .pairs)) (c .pairs) pairs m
+      → Fills pairRow (pairsLeft gs remove (radios .given) rs acknowledgement (ledgerOf c .pairs)) (c .pairs) pairs m
       → contents (set (set (c .head) 0 n) 1 m) groups pairs
-      ≡ laid (apply placing (ledgerOf c) (effect (view (ledgerOf c)) (deleteStep asker (named .numbers) remove deassign radios room))) c
+      ≡ laid (apply placing (ledgerOf c) (effect (view (ledgerOf c)) (deleteStep asker (named .numbers) remove deassign radios acknowledgement room))) c
   deleted-laid n m groups pairs fg fp =
-      let after = apply placing (ledgerOf c) (effect (view (ledgerOf c)) (deleteStep asker (named .numbers) remove deassign radios room)) in
+      let after = apply placing (ledgerOf c) (effect (view (ledgerOf c)) (deleteStep asker (named .numbers) remove deassign radios acknowledgement room)) in
       let gs = numbersIn (asker .1) (listOf named) in
       let rs = numbersIn (asker .1) (listOf radios) in
       let g : groupsLeft gs remove (ledgerOf c .groups) ≡ after .groups =
       rw given (deleted-groups remove (numbersIn (asker .1) (some (numbersOf (named .numbers)))) (ledgerOf c .groups)) in
-      let p : pairsLeft gs remove (radios .given) rs (ledgerOf c .pairs) ≡ after .pairs =
-      rw given (alter-same _ _ (λ k x. deleted-turn x remove deassign some-work (radios .given) (numbersIn (asker .1) (some (numbersOf (named .numbers)))) rs k
+      let p : pairsLeft gs remove (radios .given) rs acknowledgement (ledgerOf c .pairs) ≡ after .pairs =
+      rw given (alter-same _ _ (λ k x. deleted-turn x remove deassign some-work (radios .given) (numbersIn (asker .1) (some (numbersOf (named .numbers)))) rs
+      acknowledgement k
       ∙ rw (given-present (radios .given) (numbersOf (radios .numbers)))) (ledgerOf c .pairs)) in
       let hd = set-both (c .head) n m (w .head) ∙ (λ i. onto ((fg .counts ∙ ap length g) i ∷ (fp .counts ∙ ap length p) i ∷ []) (c .head)) in
       let gl = fg .rows ∙ ap (λ (z : List (ℕ × Group)). onto (map groupRow z) (c .groups)) g in

@@ -12,7 +12,7 @@ use Rattle.deleting.proofs.delete.Reads as delete
 module _ (κs : Lfts 4) (a : Dens κs kinds.ps) (r r′ : resT kinds.r κs .Denot) (s s′ : AtExit (endedOf 4 kinds.ps kinds.r) κs) where
   pub delete-unique : delete.Post κs a r s → delete.Post κs a r′ s′ → (r ≡ r′)
       × (now (s .0) ≡ now (s′ .0)) × (now (s .1 .0) ≡ now (s′ .1 .0)) × (now (s .1 .1 .0) ≡ now (s′ .1 .1 .0))
-      × (now (s .1 .1 .1 .1 .1 .1 .1 .1 .0) ≡ now (s′ .1 .1 .1 .1 .1 .1 .1 .1 .0))
+      × (now (s .1 .1 .1 .1 .1 .1 .1 .1 .1 .0) ≡ now (s′ .1 .1 .1 .1 .1 .1 .1 .1 .1 .0))
   delete-unique p q =
       let after = p .leaves ∙ sym (q .leaves) in (
         p .replies ∙ sym (q .replies),

@@ -20,7 +20,8 @@ use Rattle.order.specs.declared.Listed.{Listed}
 use Rattle.store.specs.Named.{groupFault}
 use Rattle.store.specs.declared.Standing.the-variants.{Missing, Foreign}
 use Rattle.turning.specs.Turns.{turnOf}
-use Rattle.turning.specs.declared.Turn.the-variants.{Remove}
+use Rattle.turning.specs.declared.Turn.{Turn}
+use Rattle.turning.specs.declared.Turn.the-variants.{Remove, Leave}
 use Rattle.deleting.specs.Leaving.{leavingOrders, remaining}
 
 -- the tests of its form
@@ -46,6 +47,10 @@ standTests groups pairs asker named remove deassign listed radios room =
 abbrev pub groupsLeft : List ℕ → Bool → List (ℕ × Group) → List (ℕ × Group)
 groupsLeft named remove l = cond remove (remaining named l) l
 
--- all pairs of the groups go with them, and those of the listed radios where the groups stay
-abbrev pub pairsLeft : List ℕ → Bool → Bool → List ℕ → List (Pair × Mark) → List (Pair × Mark)
-pairsLeft named remove listed radios l = alter (turnOf Remove named (listed && not remove) radios) l
+-- deassigned pairs are leaving where acknowledgement is asked for and the group stays, and else they go
+abbrev pub parting : Bool → Bool → Turn
+parting remove acknowledgement = cond (not remove && acknowledgement) Leave Remove
+
+-- those are all pairs of the groups, or, where these stay and radios are listed, those of the listed radios
+abbrev pub pairsLeft : List ℕ → Bool → Bool → List ℕ → Bool → List (Pair × Mark) → List (Pair × Mark)
+pairsLeft named remove listed radios acknowledgement l = alter (turnOf (parting remove acknowledgement) named (listed && not remove) radios) l

@@ -24,7 +24,7 @@ ghost use Rattle.order.specs.Steps.{deleteStep};
 ghost use Rattle.store.specs.Storage.{contents};
 ghost use Rattle.replies.specs.Sending.{Sends};
 
-// A delete: the named groups, or radios of them, go.
+// A delete: the named groups, or radios of them, go; radios of groups that stay are leaving first, where acknowledgement is asked for.
 pub fn delete(
     head: &mut [u64],
     groups: &mut [[u64; GROUP_WORDS]],
@@ -34,9 +34,10 @@ pub fn delete(
     remove: bool,
     deassign: bool,
     radios: Listed,
+    acknowledgement: bool,
     out: &mut [[u64; ORDER_WORDS]],
 ) -> Sent
-    ensures { λ r. ⌜ Sends (deleteStep asker named remove deassign radios) (now (out .entry)) (now (out .exit))
+    ensures { λ r. ⌜ Sends (deleteStep asker named remove deassign radios acknowledgement) (now (out .entry)) (now (out .exit))
         (contents (now (head .entry)) (now (groups .entry)) (now (pairs .entry)))
         (contents (now (head .exit)) (now (groups .exit)) (now (pairs .exit))) r ⌝ }
 {
@@ -81,6 +82,7 @@ pub fn delete(
         remove,
         radios.given,
         those,
+        acknowledgement,
     );
     head[GROUP_COUNT] = left as u64;
     head[PAIR_COUNT] = kept as u64;

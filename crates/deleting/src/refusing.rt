@@ -21,7 +21,7 @@ use store::Standing;
 use store::form::written;
 use store::named::any_group;
 ghost use lib.Dec.{ltb};
-ghost use mathlib.Core.Bool.{true};
+ghost use mathlib.Core.Bool.{Bool, true};
 ghost use mathlib.Core.Path.{_≡_};
 ghost use Rattle.rules.specs.ByNumber.{lower};
 ghost use Rattle.rules.specs.Lists.{rises};
@@ -93,7 +93,7 @@ fn stand_fault(
     Reply::Done
 }
 
-// What a delete is refused with; `these` and `those` are the groups and radios of its lists.
+// What a delete is refused with, whether it asks for acknowledgement or not; `these` and `those` are the groups and radios of its lists.
 pub fn delete_fault(
     head: &[u64],
     groups: &[[u64; GROUP_WORDS]],
@@ -109,8 +109,8 @@ pub fn delete_fault(
 ) -> Reply
     requires { ⌜ (named .given ≡ true) × (these ≡ groupsAs (fitting maxNumbers (numbersIn (asker .1) (listOf named))))
         × (those ≡ radiosAs (fitting maxNumbers (numbersIn (asker .1) (listOf radios)))) ⌝ }
-    ensures { λ r. ⌜ Judges (contents (now (head .entry)) (now (groups .entry)) (now (pairs .entry)))
-        (deleteStep asker (named .numbers) remove deassign radios room) r ⌝ }
+    ensures { λ r. ⌜ ((acknowledgement : Bool) → Judges (contents (now (head .entry)) (now (groups .entry)) (now (pairs .entry)))
+        (deleteStep asker (named .numbers) remove deassign radios acknowledgement room) r) ⌝ }
 {
     if !written(head, groups, pairs) {
         return Reply::Refused(Refusal::NotWritten);

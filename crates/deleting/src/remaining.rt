@@ -10,10 +10,11 @@ use turning::Turn;
 use turning::turn_pairs;
 ghost use Prim.Native.Nat.{_≤_};
 ghost use lib.ListN.{length};
+ghost use mathlib.Core.Path.{_≡_};
 ghost use Rattle.order.specs.Keys.{groupKeys, radioKeys};
 ghost use Rattle.store.specs.Lists.{Fills, Plain};
 ghost use Rattle.store.specs.Storage.{pairRow, pairsOf, groupOf, groupRow, groupsOf};
-ghost use Rattle.deleting.specs.Deletes.{groupsLeft, pairsLeft};
+ghost use Rattle.deleting.specs.Deletes.{parting, groupsLeft, pairsLeft};
 ghost use Rattle.deleting.specs.Leaving.{remaining};
 
 // The groups that go are taken out, the others close up in their order; their count is returned.
@@ -54,6 +55,17 @@ pub fn delete_groups(
     remove_groups(groups, count, &key[..end])
 }
 
+// What becomes of the pairs that a delete deassigns.
+fn parting(remove: bool, acknowledgement: bool) -> Turn
+    ensures { λ r. ⌜ r ≡ parting remove acknowledgement ⌝ }
+{
+    let waits = !remove & acknowledgement;
+    if waits {
+        return Turn::Leave;
+    }
+    Turn::Remove
+}
+
 // The pairs that a delete leaves; their count is returned.
 pub fn delete_pairs(
     pairs: &mut [[u64; PAIR_WORDS]],
@@ -62,9 +74,11 @@ pub fn delete_pairs(
     remove: bool,
     listed: bool,
     radios: Radios,
+    acknowledgement: bool,
 ) -> usize
-    ensures { λ r. ⌜ Fills pairRow (pairsLeft (groupKeys named) remove listed (radioKeys radios) (pairsOf count (now (pairs .entry))))
+    ensures { λ r. ⌜ Fills pairRow (pairsLeft (groupKeys named) remove listed (radioKeys radios) acknowledgement (pairsOf count (now (pairs .entry))))
         (now (pairs .entry)) (now (pairs .exit)) r ⌝ }
 {
-    turn_pairs(pairs, count, Turn::Remove, named, listed & !remove, radios)
+    let turn = parting(remove, acknowledgement);
+    turn_pairs(pairs, count, turn, named, listed & !remove, radios)
 }

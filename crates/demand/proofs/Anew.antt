@@ -54,7 +54,7 @@ defined-by : (asker : Number) (places : List ℕ) → defineOf asker places .ask
 unfolding defineOf
 defined-by asker places = refl
 
-sent-none : (o : Option Refusal) (n k : ℕ) → Orders n ≡ sentReply o k → o ≡ none
+pub sent-none : (o : Option Refusal) (n k : ℕ) → Orders n ≡ sentReply o k → o ≡ none
 sent-none none n k e = refl
 sent-none (some r) n k e = let z : _≡_ {A = ℕ} 0 1 = cc in absurd (omega arith)
 

@@ -77,7 +77,7 @@ deletes d room c =
       lifetimes = ([], ([], ([], ([], tt))));
       lent = lends c;
       out = lend room;
-      left = (to .head, (to .groups, (to .pairs, (d .asker, (d .named, (d .remove, (d .deassign, (d .radios, (orders, tt)))))))));
+      left = (to .head, (to .groups, (to .pairs, (d .asker, (d .named, (d .remove, (d .deassign, (d .radios, (d .acknowledgement, (orders, tt))))))))));
       starts = refl;
       roomed = refl;
       meets = record { replies = refl; leaves = refl; sends = refl };
@@ -106,7 +106,7 @@ answers a c w =
     record {
       lifetimes = ([], ([], ([], tt)));
       lent = lends c;
-      left = (to .head, (lend (c .groups), (to .pairs, (a .radio, (a .group, (a .result, tt))))));
+      left = (to .head, (lend (c .groups), (to .pairs, (a .radio, (a .group, (a .kind, (a .result, tt)))))));
       starts = refl;
       meets = record { replies = refl; leaves = e };
       ends = e;

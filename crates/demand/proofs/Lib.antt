@@ -8,6 +8,7 @@ pub mod Never18
 pub mod Anew
 pub mod Visitor
 pub mod Ownership
+pub mod Leaving
 pub mod Asked
 pub mod Before
 pub mod Spelled

@@ -2,6 +2,7 @@
 use mathlib.Core.Bool.{Bool}
 use Prim.Native.Nat.{ℕ}
 use Rattle.rules.specs.Order.{Step}
+use Rattle.rules.specs.declared.AnswerKind.{AnswerKind}
 use Rattle.order.specs.Steps.{answerStep, deleteStep}
 use Rattle.order.specs.declared.Gtsi.{Gtsi}
 use Rattle.order.specs.declared.Itsi.{Itsi}
@@ -14,15 +15,17 @@ pub record Deletion : Type 0 where
   pub remove : Bool
   pub deassign : Bool
   pub radios : Listed
+  pub acknowledgement : Bool
 
 pub record Answering : Type 0 where
   pub radio : Itsi
   pub group : Gtsi
+  pub kind : AnswerKind
   pub result : ℕ
 
 -- the number is the room for what goes out
 abbrev pub deletionStep : Deletion → ℕ → Step
-deletionStep d room = deleteStep (d .asker) (d .named) (d .remove) (d .deassign) (d .radios) room
+deletionStep d room = deleteStep (d .asker) (d .named) (d .remove) (d .deassign) (d .radios) (d .acknowledgement) room
 
 abbrev pub answeringStep : Answering → Step
-answeringStep a = answerStep (a .radio) (a .group) (a .result)
+answeringStep a = answerStep (a .radio) (a .group) (a .kind) (a .result)

@@ -69,7 +69,7 @@ pub record Answers (a : Answering) (before after : Contents) (reply : Reply) : T
   pub lent : Storage
   pub left : AtExit (endedOf 3 answer-kinds.ps answer-kinds.r) lifetimes
   pub starts : held lent ≡ before
-  pub meets : answer.Post lifetimes (lent .head, (lent .groups, (lent .pairs, (a .radio, (a .group, (a .result, tt)))))) reply left
+  pub meets : answer.Post lifetimes (lent .head, (lent .groups, (lent .pairs, (a .radio, (a .group, (a .kind, (a .result, tt))))))) reply left
   pub ends : contents (now (left .0)) (now (lent .groups)) (now (left .1 .1 .0)) ≡ after
 
 pub record HandsOver (asker : Itsi) (group : Identity) (owners : Numbers) (before after : Contents) (reply : Reply) : Type 0 where
@@ -99,9 +99,9 @@ pub record Deletes (d : Deletion) (room sent : Rows) (before after : Contents) (
   pub starts : held lent ≡ before
   pub roomed : now out ≡ room
   pub meets : delete.Post lifetimes
-      (lent .head, (lent .groups, (lent .pairs, (d .asker, (d .named, (d .remove, (d .deassign, (d .radios, (out, tt))))))))) reply left
+      (lent .head, (lent .groups, (lent .pairs, (d .asker, (d .named, (d .remove, (d .deassign, (d .radios, (d .acknowledgement, (out, tt)))))))))) reply left
   pub ends : contents (now (left .0)) (now (left .1 .0)) (now (left .1 .1 .0)) ≡ after
-  pub sends : now (left .1 .1 .1 .1 .1 .1 .1 .1 .0) ≡ sent
+  pub sends : now (left .1 .1 .1 .1 .1 .1 .1 .1 .1 .0) ≡ sent
 
 -- ---- the questions, on contents that they do not change; listed: the rows of the room after the call ----
 

@@ -47,7 +47,7 @@ pub struct Definition {
     pub values: Record,
 }
 
-// What an X says: asker, room, groups, delete, deassign, radios; and the place behind them.
+// What an X says: asker, room, groups, delete, deassign, radios, acknowledgement asked for; and the place behind them.
 pub struct Deletion {
     pub asker: Itsi,
     pub size: u64,
@@ -55,6 +55,7 @@ pub struct Deletion {
     pub remove: bool,
     pub deassign: bool,
     pub radios: Listed,
+    pub acknowledgement: bool,
     pub next: usize,
 }
 
@@ -159,7 +160,7 @@ pub fn read_definition(line: &[u8]) -> Definition {
     }
 }
 
-// X: asker, room, groups, delete, deassign, radios or none.
+// X: asker, room, groups, delete, deassign, radios or none, acknowledgement.
 pub fn read_deletion(line: &[u8]) -> Deletion {
     let asker = number(line, 1);
     let size = room(line, asker.next);
@@ -167,6 +168,7 @@ pub fn read_deletion(line: &[u8]) -> Deletion {
     let remove = choice(line, named.next);
     let deassign = choice(line, remove.next);
     let radios = series_or_none(line, deassign.next);
+    let asked = choice(line, radios.next);
     let groups = named.list;
     let numbers = groups.numbers;
     let listed = radios.list;
@@ -177,7 +179,8 @@ pub fn read_deletion(line: &[u8]) -> Deletion {
         remove: remove.value == 1,
         deassign: deassign.value == 1,
         radios: listed,
-        next: radios.next,
+        acknowledgement: asked.value == 1,
+        next: asked.next,
     }
 }
 

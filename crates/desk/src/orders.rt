@@ -26,6 +26,7 @@ use text::put_reply;
 use text::put_sent;
 use text::put_shown;
 use text::refuse;
+use words::kind;
 use words::number;
 use words::room;
 use words::word;
@@ -114,11 +115,12 @@ fn delete(
         order.remove,
         order.deassign,
         radios,
+        order.acknowledgement,
         &mut rows[..count],
     ))
 }
 
-// A: radio, group, result.
+// A: radio, group, result, kind.
 fn answer(
     line: &[u8],
     head: &mut [u64; HEAD_WORDS],
@@ -128,12 +130,14 @@ fn answer(
     let radio = number(line, 1);
     let group = number(line, radio.next);
     let result = word(line, group.next, 2);
-    if result.next != line.len() {
+    let what = kind(line, result.next);
+    if what.next != line.len() {
         return bad_line();
     }
+    let kind = what.kind;
     let from = Itsi(radio.ssi, radio.extension);
     let of = Gtsi(group.ssi, group.extension);
-    ledger::answer(head, groups, pairs, from, of, result.value)
+    ledger::answer(head, groups, pairs, from, of, kind, result.value)
 }
 
 // H: asker, group, owners.

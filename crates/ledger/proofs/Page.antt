@@ -42,7 +42,8 @@ module _ (κs : Lfts 3) (a : Dens κs tick-kinds.ps) (r : resT tick-kinds.r κs 
 
 module _ (κs : Lfts 3) (a : Dens κs answer-kinds.ps) (r : resT answer-kinds.r κs .Denot) (s : AtExit (endedOf 3 answer-kinds.ps answer-kinds.r) κs) where
   pub answer-page : answer.Post κs a r s
-      → Replies (answerStep (a .1 .1 .1 .0) (a .1 .1 .1 .1 .0) (a .1 .1 .1 .1 .1 .0)) (contents (now (a .0)) (now (a .1 .0)) (now (a .1 .1 .0)))
+      → Replies (answerStep (a .1 .1 .1 .0) (a .1 .1 .1 .1 .0) (a .1 .1 .1 .1 .1 .0) (a .1 .1 .1 .1 .1 .1 .0))
+      (contents (now (a .0)) (now (a .1 .0)) (now (a .1 .1 .0)))
       (contents (now (s .0)) (now (a .1 .0)) (now (s .1 .1 .0))) r
   answer-page p = p
 
@@ -61,8 +62,8 @@ module _ (κs : Lfts 4) (a : Dens κs define-kinds.ps) (r : resT define-kinds.r 
 
 module _ (κs : Lfts 4) (a : Dens κs delete-kinds.ps) (r : resT delete-kinds.r κs .Denot) (s : AtExit (endedOf 4 delete-kinds.ps delete-kinds.r) κs) where
   pub delete-page : delete.Post κs a r s
-      → Sends (deleteStep (a .1 .1 .1 .0) (a .1 .1 .1 .1 .0) (a .1 .1 .1 .1 .1 .0) (a .1 .1 .1 .1 .1 .1 .0) (a .1 .1 .1 .1 .1 .1 .1 .0))
-      (now (a .1 .1 .1 .1 .1 .1 .1 .1 .0)) (now (s .1 .1 .1 .1 .1 .1 .1 .1 .0))
+      → Sends (deleteStep (a .1 .1 .1 .0) (a .1 .1 .1 .1 .0) (a .1 .1 .1 .1 .1 .0) (a .1 .1 .1 .1 .1 .1 .0) (a .1 .1 .1 .1 .1 .1 .1 .0)
+      (a .1 .1 .1 .1 .1 .1 .1 .1 .0)) (now (a .1 .1 .1 .1 .1 .1 .1 .1 .1 .0)) (now (s .1 .1 .1 .1 .1 .1 .1 .1 .1 .0))
       (contents (now (a .0)) (now (a .1 .0)) (now (a .1 .1 .0))) (contents (now (s .0)) (now (s .1 .0)) (now (s .1 .1 .0))) r
   delete-page p = p
 

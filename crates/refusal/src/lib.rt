@@ -29,7 +29,7 @@ pub enum Refusal {
     NoSuchGroup,
     // Ledger: the asker does not own a named group.
     NotOwner,
-    // Ledger: no open assignment for this answer.
+    // Ledger: no open assignment, or deassignment, for this answer.
     NotOpen,
     // Ledger: a delete that neither deletes nor deassigns.
     NothingToDo,

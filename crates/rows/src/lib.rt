@@ -79,12 +79,18 @@ pub const ENTRY_RADIO: usize = 0;
 
 pub const ENTRY_STATE: usize = 2;
 
-// The states of a pair that code looks at: waiting, confirmed, unheard; and T1, the ticks after which a waiting pair is unheard.
+// The states of a pair that code looks at; and T1, the ticks after which a waiting or leaving pair is unheard.
 pub const WAITING: u64 = 1;
 
 pub const CONFIRMED: u64 = 2;
 
 pub const UNHEARD: u64 = 3;
+
+pub const LEAVING: u64 = 4;
+
+pub const WOULD_NOT_LEAVE: u64 = 5;
+
+pub const LEAVING_UNHEARD: u64 = 6;
 
 pub const T1: u64 = 30;
 

@@ -27,6 +27,7 @@ pub mod Stretches
 pub mod Anew
 pub mod Visitor
 pub mod Ownership
+pub mod Leaving
 pub mod Steps
 pub mod Room
 pub mod Spelled

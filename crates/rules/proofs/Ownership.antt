@@ -30,7 +30,7 @@ lost true false stands comes s e = (refl, refl, e)
 lost false stay stands comes s e = clash (sym s ∙ e)
 
 -- what holds of what an accepted step leaves, and of what stood before, holds after the step
-either : (b : Bool) (P : World → Type 0) (x y : World) → P x → P y → P (cond b x y)
+pub either : (b : Bool) (P : World → Type 0) (x y : World) → P x → P y → P (cond b x y)
 either true P x y p q = p
 either false P x y p q = q
 

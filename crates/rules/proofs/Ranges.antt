@@ -13,10 +13,13 @@ use Rattle.rules.specs.Number.{Number, Identity, Numbers, used, key, ide
 use Rattle.rules.specs.Named.{span, range, spelled, numbers, numbersIn}
 use Rattle.rules.specs.Number.{wide, wideNumber, keyLimit, wideKey, badIdentity, badList, short, untaken}
 use Rattle.rules.specs.Parameters.{Parameters, over, replaced, tooLarge, badName, badParameters}
-use Rattle.rules.specs.Mark.{Mark, waiting, T1, begun, ticked}
+use Rattle.rules.specs.Mark.{Mark, confirmed, leaving, wouldNotLeave, fresh, begun, T1, timed, expired, ticked, answered}
 use Rattle.rules.specs.Placing.{Placing, Lawful}
 use Rattle.rules.specs.Owners.{maxOwners}
-use Rattle.rules.specs.Order.{askerAnd}
+use Rattle.rules.specs.Order.{Delete, askerAnd, awaits}
+use Rattle.rules.specs.Effect.{parted}
+use Rattle.rules.specs.declared.AnswerKind.{AnswerKind}
+use Rattle.rules.specs.declared.AnswerKind.the-variants.{Assignment, Deassignment}
 use Rattle.rules.specs.Written.{goodOwners, goodMark}
 use Rattle.rules.proofs.Tests.{split, clash, and-in, or-second, or-in, or-l, or-r, not-in}
 use Rattle.rules.proofs.Keys.{key-narrow}
@@ -168,9 +171,23 @@ pub begun-good : (acknowledgement : Bool) → goodMark (begun acknowledgement) �
 begun-good true = refl
 begun-good false = refl
 
+expired-good : (state : ℕ) → goodMark (fresh (expired state)) ≡ true
+expired-good state = split (eqb state leaving) (λ e. rw e refl) (λ e. rw e refl)
+
 pub ticked-good : (m : Mark) → goodMark m ≡ true → goodMark (ticked m) ≡ true
-ticked-good m h = split (eqb (m .state) waiting)
+ticked-good m h = split (timed (m .state))
     (λ e. split (leb T1 (m .ticks + 1))
-    (λ f. cc)
+    (λ f. cc (expired-good (m .state)))
     (λ f. cc (lt-ltb (m .ticks + 1) T1 (leb-false T1 (m .ticks + 1) f))))
     (λ e. cc)
+
+-- what is left where something is
+pub left-good : (m m′ : Mark) → goodMark m ≡ true → some m ≡ some m′ → goodMark m′ ≡ true
+left-good m m′ h e = let q : m ≡ m′ = cc in sym (ap goodMark q) ∙ h
+
+pub answered-good : (kind : AnswerKind) (result : ℕ) (m : Mark) → answered kind result ≡ some m → goodMark m ≡ true
+answered-good Assignment result m e = split (eqb result 1) (λ y. left-good (fresh confirmed) m refl (cc)) (λ n. clash (cc))
+answered-good Deassignment result m e = split (eqb result 1) (λ y. clash (cc)) (λ n. left-good (fresh wouldNotLeave) m refl (cc))
+
+pub parted-good : (o : Delete) (m : Mark) → parted o ≡ some m → goodMark m ≡ true
+parted-good o m e = split (awaits o) (λ y. left-good (fresh leaving) m refl (cc)) (λ n. clash (cc))

@@ -14,8 +14,8 @@ use Rattle.rules.specs.Entries.{find}
 use Rattle.rules.specs.Number.{key, identified, wide, wideNumber, wideKey, badIdentity, badList, short, untaken}
 use Rattle.rules.specs.Named.{maxListedOwners, numbersIn}
 use Rattle.rules.specs.Parameters.{noParameters, replaced, badParameters}
-use Rattle.rules.specs.Mark.{Mark, confirmed, fresh, ticked}
-use Rattle.rules.specs.Owners.{added, set, maxOwners}
+use Rattle.rules.specs.Mark.{Mark, ticked}
+use Rattle.rules.specs.Owners.{added, maxOwners}
 use Rattle.rules.specs.Order.{Define, Delete, Answer, Handover, Step, define, delete, answer, handover, tick}
 use Rattle.rules.specs.Order.{defineGroups, defineOwners, deleteGroups, leaves, handoverGroup, handoverOwners}
 use Rattle.rules.specs.Effect.{Effect, only, effect}
@@ -37,7 +37,7 @@ use Rattle.rules.proofs.Walks.{alter-all}
 use Rattle.rules.proofs.Steps.{groups-total}
 use Rattle.rules.proofs.Keys.{key-narrow}
 use Rattle.rules.proofs.Ranges.{identity-narrow, numbers-narrow, owners-good, asker-narrow, asker-few, asker-among}
-use Rattle.rules.proofs.Ranges.{replaced-good, begun-good, ticked-good}
+use Rattle.rules.proofs.Ranges.{replaced-good, begun-good, ticked-good, answered-good, parted-good, left-good}
 
 -- ---- the form, by what is found ----
 
@@ -188,7 +188,7 @@ module _ (p : Placing) (laws : Lawful p) (l : Ledger) (f : Form p l) (e : Effect
         (λ a. made g x a (cc (group-then g)))
         (λ a. split (e .removes g) (λ b. clash (cc (group-then g))) (λ b. f .groups g x (cc (group-then g))));
     marks = λ g r m k. split (mem g (e .makes) && mem r (e .assigns))
-        (λ a. (fit .assigns r (and-r (mem g (e .makes)) (mem r (e .assigns)) a), set m (cc (mark-then g r))))
+        (λ a. (fit .assigns r (and-r (mem g (e .makes)) (mem r (e .assigns)) a), left-good (e .begins) m (fit .begins) (cc (mark-then g r))))
         (λ a. turn g r m (find samePair (l .pairs) (g, r)) refl (cc (mark-then g r)));
     there = λ g r k. split (mem g (e .makes))
         (λ a. cc (group-then g))
@@ -202,9 +202,6 @@ module _ (p : Placing) (laws : Lawful p) (l : Ledger) (f : Form p l) (e : Effect
           sym (ap (λ (y : Group). goodGroup p (g, y)) q) ∙ and-in (not-in (wideKey g) (fit .makes g a .0)) (and-in
           (fit .makes g a .1)
           (not-in (badParameters (replaced (e .parameters) (parametersOf (group l g)))) (replaced-fit p e (group l g) (fit .parameters) good)))
-
-      set : (m : Mark) → some (e .begins) ≡ some m → goodMark m ≡ true
-      set m k = let q : e .begins ≡ m = cc in sym (ap goodMark q) ∙ fit .begins
 
       turn : (g r : ℕ) (m : Mark) (o : Option Mark) → find samePair (l .pairs) (g, r) ≡ o → turned (e .turns g r) o ≡ some m
           → (wideKey r ≡ false) × (goodMark m ≡ true)
@@ -220,7 +217,7 @@ module _ (p : Placing) (laws : Lawful p) (l : Ledger) (f : Form p l) (e : Effect
 
 -- ---- the steps ----
 
-none-refused : (r : Option Refusal) → accepted r ≡ true → r ≡ none
+pub none-refused : (r : Option Refusal) → accepted r ≡ true → r ≡ none
 none-refused none e = refl
 none-refused (some r) e = clash (sym e)
 
@@ -270,7 +267,7 @@ module _ (p : Placing) (laws : Lawful p) where
         assigns = numbers-narrow x (o .radios) home (or-l (badList (o .radios)) (badParameters (o .parameters)) b₃)
             (or-r (untaken (o .owners)) (untaken (o .radios)) u₂);
         begins = begun-good (o .acknowledgement);
-        turns = λ g r m m′ h k. let q : m ≡ m′ = cc in sym (ap goodMark q) ∙ h;
+        turns = λ g r m m′ h k. left-good m m′ h k;
         removes = λ g r m k. clash (sym k);
         few-groups = ltb-false maxGroups (length (l′ .groups)) (or-l manyGroups manyPairs full);
         few-pairs = ltb-false maxPairs (length (l′ .pairs)) (or-r manyGroups manyPairs full);
@@ -306,7 +303,7 @@ module _ (p : Placing) (laws : Lawful p) where
         parameters = refl;
         assigns = λ r k. clash (sym k);
         begins = refl;
-        turns = λ g r m m′ h k. let q : m ≡ m′ = cc in sym (ap goodMark q) ∙ h;
+        turns = λ g r m m′ h k. left-good m m′ h k;
         removes = λ g r m k. clash (sym k);
         few-groups = omega (arith, f .few-groups, handover-count l f o e);
         few-pairs = rw (alter-all (l .pairs)) (f .few-pairs);
@@ -331,22 +328,20 @@ module _ (p : Placing) (laws : Lawful p) where
   delete-fit : (l : Ledger) → Form p l → (o : Delete) (room : ℕ) → Fit p l (effect (view l) (delete o room))
   delete-fit l f o room = only-fit l f (λ g. o .delete && mem g (deleteGroups o)) _
       (λ g r m m′ h k. split (mem g (deleteGroups o) && leaves o r)
-      (λ a. clash (cc))
-      (λ a. let q : m ≡ m′ = cc in sym (ap goodMark q) ∙ h))
+      (λ a. parted-good o m′ (cc))
+      (λ a. left-good m m′ h (cc)))
       (λ g r m k. split (o .delete) (λ a. cc) (λ a. clash (cc)))
 
   answer-fit : (l : Ledger) → Form p l → (a : Answer) → Fit p l (effect (view l) (answer a))
   answer-fit l f a = only-fit l f (λ g. false) _
       (λ g r m m′ h k. split (eqb g (key (a .group)) && eqb r (key (a .radio)))
-      (λ b. split (eqb (a .result) 1)
-      (λ c. let q : fresh confirmed ≡ m′ = cc in sym (ap goodMark q))
-      (λ c. clash (cc)))
-      (λ b. let q : m ≡ m′ = cc in sym (ap goodMark q) ∙ h))
+      (λ b. answered-good (a .kind) (a .result) m′ (cc))
+      (λ b. left-good m m′ h (cc)))
       (λ g r m k. clash (sym k))
 
   tick-fit : (l : Ledger) → Form p l → Fit p l (effect (view l) tick)
   tick-fit l f = only-fit l f (λ g. false) _
-      (λ g r m m′ h k. let q : ticked m ≡ m′ = cc in sym (ap goodMark q) ∙ ticked-good m h)
+      (λ g r m m′ h k. left-good (ticked m) m′ (ticked-good m h) k)
       (λ g r m k. clash (sym k))
 
   step-fit : (l : Ledger) → Form p l → (s : Step) → refused p l s ≡ none → Fit p l (effect (view l) s)

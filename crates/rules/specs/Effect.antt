@@ -7,10 +7,10 @@ use lib.Dec.{eqb}
 use Rattle.rules.specs.Lists.{mem}
 use Rattle.rules.specs.Number.{key}
 use Rattle.rules.specs.Parameters.{Parameters, noParameters}
-use Rattle.rules.specs.Mark.{Mark, noneWanted, fresh, begun, ticked, answered}
+use Rattle.rules.specs.Mark.{Mark, noneWanted, leaving, fresh, begun, ticked, answered}
 use Rattle.rules.specs.Owners.{OwnerChange, added, set, kept}
-use Rattle.rules.specs.Order.{Step, define, delete, answer, handover, tick, defineGroups, defineRadios, defineOwners, deleteGroups, leaves}
-use Rattle.rules.specs.Order.{handoverGroup, handoverOwners}
+use Rattle.rules.specs.Order.{Delete, Step, define, delete, answer, handover, tick, defineGroups, defineRadios, defineOwners}
+use Rattle.rules.specs.Order.{deleteGroups, leaves, awaits, handoverGroup, handoverOwners}
 use Rattle.rules.specs.World.{World}
 
 pub record Effect : Type 0 where
@@ -50,15 +50,19 @@ only removes turns = record {
   turns = turns;
 }
 
+-- what a delete makes of a pair whose radio is to leave: it goes, or "deassigned pairs remain in state 4 (leaving) .., from 0 ticks"
+abbrev pub parted : Delete → Option Mark
+parted o = cond (awaits o) (some (fresh leaving)) none
+
 -- of a step on what stands before it
 abbrev pub effect : World → Step → Effect
 effect w (define o room) = onGroups (defineGroups o) (added (defineOwners o)) (o .parameters) (defineRadios o) (begun (o .acknowledgement))
 effect w (delete o room) = only
     (λ g. o .delete && mem g (deleteGroups o))
-    (λ g r m. cond (mem g (deleteGroups o) && leaves o r) none (some m))
+    (λ g r m. cond (mem g (deleteGroups o) && leaves o r) (parted o) (some m))
 effect w (answer a) = only
     (λ g. false)
-    (λ g r m. cond (eqb g (key (a .group)) && eqb r (key (a .radio))) (answered (a .result)) (some m))
+    (λ g r m. cond (eqb g (key (a .group)) && eqb r (key (a .radio))) (answered (a .kind) (a .result)) (some m))
 effect w (handover o) = onGroups (handoverGroup o ∷ []) (set (handoverOwners o)) noParameters [] (fresh noneWanted)
 effect w tick = only
     (λ g. false)

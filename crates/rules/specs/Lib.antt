@@ -28,3 +28,4 @@ pub mod Stretches
 pub mod Spelled
 pub mod Visitor
 pub mod Ownership
+pub mod Leaving

@@ -1,10 +1,11 @@
 -- The orders of document 01, define, delete, answer and tick, and the handover of document 02 (P6). They hold numbers as handed over,
 -- "asker and answering radio .. with theirs".
 use Prim.Native.Nat.{ℕ}
-use mathlib.Core.Bool.{Bool, true, cond, _&&_, _||_}
+use mathlib.Core.Bool.{Bool, true, cond, not, _&&_, _||_}
 use mathlib.Core.List.{List, _∷_}
 use mathlib.Core.Option.{Option, some}
 use Rattle.layout.specs.declared.Judged.{Judged}
+use Rattle.rules.specs.declared.AnswerKind.{AnswerKind}
 use Rattle.rules.specs.Lists.{present, mem, once}
 use Rattle.rules.specs.Number.{Number, Identity, Numbers, key, identityKey}
 use Rattle.rules.specs.Named.{numbers, numbersIn}
@@ -22,17 +23,20 @@ pub record Define : Type 0 where
   pub acknowledgement : Bool
   pub parameters : Parameters
 
--- radios: none where none are listed
+-- radios: none where none are listed. acknowledgement: whether it is asked for
 pub record Delete : Type 0 where
   pub asker : Number
   pub groups : Numbers
   pub delete : Bool
   pub deassign : Bool
   pub radios : Option Numbers
+  pub acknowledgement : Bool
 
+-- kind: whether it is for an assignment or a deassignment
 pub record Answer : Type 0 where
   pub radio : Number
   pub group : Number
+  pub kind : AnswerKind
   pub result : ℕ
 
 -- "(asker, one group, list)"
@@ -81,6 +85,10 @@ deleteRadios o = numbersIn (o .asker .extension) (o .radios)
 abbrev pub deassigns : Delete → ℕ → Bool
 deassigns o r = o .deassign && cond (present (o .radios)) (mem r (deleteRadios o)) true
 
--- whether this radio's pairs with the named groups go: with the group, or by deassignment
+-- whether this radio is to leave the named groups: as they go, or by deassignment
 abbrev pub leaves : Delete → ℕ → Bool
 leaves o r = o .delete || deassigns o r
+
+-- "When a delete asks for acknowledgement and the group itself stays"
+abbrev pub awaits : Delete → Bool
+awaits o = not (o .delete) && o .acknowledgement

@@ -84,7 +84,7 @@ tests w t (delete o room) =
 tests w t (answer a) =
     (BadOrder, wideNumber (a .radio) || (wideNumber (a .group) || (eqb (a .result) 0 || ltb 4 (a .result))))
     ∷ (NoSuchGroup, not (w .stands (key (a .group))))
-    ∷ (NotOpen, not (open? (w .mark (key (a .group)) (key (a .radio)))))
+    ∷ (NotOpen, not (open? (a .kind) (w .mark (key (a .group)) (key (a .radio)))))
     ∷ []
 tests w t (handover o) =
     let home = o .asker .extension in

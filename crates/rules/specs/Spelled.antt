@@ -44,7 +44,14 @@ defineWith o groups owners radios = record {
 }
 
 abbrev pub deleteWith : Delete → Numbers → Option Numbers → Delete
-deleteWith o groups radios = record { asker = o .asker; groups = groups; delete = o .delete; deassign = o .deassign; radios = radios }
+deleteWith o groups radios = record {
+  asker = o .asker;
+  groups = groups;
+  delete = o .delete;
+  deassign = o .deassign;
+  radios = radios;
+  acknowledgement = o .acknowledgement;
+}
 
 abbrev pub handoverWith : Handover → Numbers → Handover
 handoverWith o owners = record { asker = o .asker; group = o .group; owners = owners }

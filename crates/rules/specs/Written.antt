@@ -8,7 +8,7 @@ use lib.ListN.{length}
 use Rattle.rules.specs.Lists.{all, present}
 use Rattle.rules.specs.Number.{wideKey}
 use Rattle.rules.specs.Parameters.{badParameters}
-use Rattle.rules.specs.Mark.{Mark, waiting, unheard, T1}
+use Rattle.rules.specs.Mark.{Mark, timed, leavingUnheard, T1}
 pub use Rattle.rules.specs.Owners.{maxOwners}
 use Rattle.rules.specs.Refusals.{maxGroups, maxPairs}
 use Rattle.rules.specs.Ledger.{Group, Pair, Ledger, group}
@@ -21,9 +21,9 @@ goodOwners p owners = ltb 0 (length owners) && (leb (length owners) maxOwners &&
 abbrev pub goodGroup : Placing → ℕ × Group → Bool
 goodGroup p e = not (wideKey (e .0)) && (goodOwners p (e .1 .owners) && not (badParameters (e .1 .parameters)))
 
--- a waiting pair has 0 to 29 ticks, any other none
+-- "states 0 to 6, ticks 0 to 29 in 1 and 4, else 0"
 abbrev pub goodMark : Mark → Bool
-goodMark m = cond (eqb (m .state) waiting) (ltb (m .ticks) T1) (leb (m .state) unheard && eqb (m .ticks) 0)
+goodMark m = cond (timed (m .state)) (ltb (m .ticks) T1) (leb (m .state) leavingUnheard && eqb (m .ticks) 0)
 
 abbrev pub goodPair : Ledger → Pair × Mark → Bool
 goodPair l e = not (wideKey (e .0 .1)) && (goodMark (e .1) && present (group l (e .0 .0)))

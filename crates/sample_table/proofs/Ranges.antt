@@ -1,7 +1,7 @@
 -- Two DEFINE records, one with a range of radios and one with the list of its numbers, are two orders such as P5's law speaks of: what the
 -- frame half says of both is the same too.
 -- Assumes nothing.
-use mathlib.Core.Path.{_≡_, refl}
+use mathlib.Core.Path.{refl}
 use mathlib.Core.List.{_++_}
 use Rattle.bits.specs.Bits.{digits, value}
 use Rattle.layout.specs.Row.{present}

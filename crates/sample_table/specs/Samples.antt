@@ -1,10 +1,10 @@
 -- The samples that are proved, in one table, and what it is that each of them passes: document 01's starred ones, two of each frame of P1,
--- two radios with one SSI (P3), ranges (P5), and owners added and handed over (P6).
+-- two radios with one SSI (P3), ranges (P5), owners added and handed over (P6), and radios that let go or would not (P7).
 -- Assumes nothing.
 use Prim.Native.Nat.{ℕ, zero, suc, _-_}
 use mathlib.Core.Bool.{Bool, true, false, _&&_}
 use mathlib.Core.List.{List, [], _∷_, _++_, map}
-use mathlib.Core.Option.{none}
+use mathlib.Core.Option.{none, some}
 use lib.Dec.{eqb}
 use lib.ListN.{length, replicate}
 use Rattle.refusal.specs.Number.{numberOf}
@@ -17,6 +17,8 @@ use Rattle.layout.specs.declared.Written.the-variants as written
 use Rattle.layout.specs.Shape.{Yes, No}
 use Rattle.layout.specs.Frame.{places, readingOf, writtenOf, outputOf}
 use Rattle.rules.specs.Number.{key, plain}
+use Rattle.rules.specs.declared.AnswerKind.{AnswerKind}
+use Rattle.rules.specs.declared.AnswerKind.the-variants.{Assignment, Deassignment}
 use Rattle.rules.specs.Order.{Step, define, delete, answer, handover, tick}
 use Rattle.rules.specs.Recorded.{setReference, ownersIncluded, assignment, numbersAt, defineOf}
 use Rattle.rules.specs.Refusals.{replyNumber}
@@ -95,13 +97,46 @@ handed = start then assigns 5 then listsOwners 1 (one (ssi 2)) then handsOver 2 
 abbrev crowded : History
 crowded = start then assigns 5 then listsOwners 1 (listed 1 (ssi 2 ++ ssi 11)) then listsOwners 1 (listed 1 (ssi 10 ++ ssi 16))
 
--- he deletes group 5, deassign no
-abbrev deletes : ℕ → Step
-deletes x = delete (record { asker = plain x 1; groups = numbersAt (one (ssi 5)) 0; delete = true; deassign = false; radios = none }) 0
+-- he deletes group 5, deassign no, and asks for acknowledgement or does not
+abbrev deletes : ℕ → Bool → Step
+deletes x asks = delete (record {
+  asker = plain x 1;
+  groups = numbersAt (one (ssi 5)) 0;
+  delete = true;
+  deassign = false;
+  radios = none;
+  acknowledgement = asks;
+}) 0
 
--- radio 9 of extension y answers for group 5 of extension x with result 1
+-- he deassigns radio 9 from group 5, both of extension 5, and asks for acknowledgement or does not
+abbrev deassigns : Bool → Step
+deassigns asks = delete (record {
+  asker = plain 5 1;
+  groups = numbersAt (one (ssi 5)) 0;
+  delete = false;
+  deassign = true;
+  radios = some (numbersAt (one (ssi 9)) 0);
+  acknowledgement = asks;
+}) 1
+
+-- radio 9 of extension y answers for group 5 of extension x
+abbrev answers : ℕ → ℕ → AnswerKind → ℕ → Step
+answers x y kind result = answer (record { radio = plain y 9; group = plain x 5; kind = kind; result = result })
+
+-- it confirms its assignment
 abbrev confirms : ℕ → ℕ → Step
-confirms x y = answer (record { radio = plain y 9; group = plain x 5; result = 1 })
+confirms x y = answers x y Assignment 1
+
+-- it answers to its deassignment, both of extension 5
+abbrev leaves : ℕ → Step
+leaves result = answers 5 5 Deassignment result
+
+-- radio 9 is leaving group 5; it would not
+abbrev leaving : History
+leaving = start then assigns 5 then deassigns true
+
+abbrev stayed : History
+stayed = leaving then leaves 2
 
 -- a radio in a list, with its state
 abbrev listedAs : ℕ → ℕ → ℕ → Entry
@@ -125,7 +160,7 @@ orders x others =
     ∷ ordered x (ticks 30 (start then assigns x) then confirms x x) (confirms x x) 14 (listedAs x 9 2 ∷ [])
     -- group 5 with radio 9 in it; deleted, deassign no, and defined again, assigning none: empty list
     ∷ ordered x start (assigns x) 0 (listedAs x 9 1 ∷ [])
-    ∷ ordered x (start then assigns x then deletes x) (defines x) 0 []
+    ∷ ordered x (start then assigns x then deletes x false) (defines x) 0 []
     ∷ others
 
 -- ---- the table
@@ -209,6 +244,34 @@ samples =
     ∷ ordered 5 crowded (listsOwners 16 (one (ssi 1))) 0 (listedAs 5 9 1 ∷ [])
     ∷ ordered 5 crowded (listsOwners 16 (one (ssi 17))) 21 (listedAs 5 9 1 ∷ [])
     ∷ shown (crowded then handsOver 16 (one (ssi 16))) 16 0 (16 ∷ [])
+    -- a deassign that asks for acknowledgement: the radio is leaving, and unheard at the 30th tick
+    ∷ ordered 5 (start then assigns 5) (deassigns true) 0 (listedAs 5 9 4 ∷ [])
+    ∷ ordered 5 (ticks 28 leaving) tick 0 (listedAs 5 9 4 ∷ [])
+    ∷ ordered 5 (ticks 29 leaving) tick 0 (listedAs 5 9 6 ∷ [])
+    -- its answer after 29 ticks and after 30: it has let go, or would not
+    ∷ ordered 5 (ticks 29 leaving) (leaves 1) 0 []
+    ∷ ordered 5 (ticks 30 leaving) (leaves 1) 0 []
+    ∷ ordered 5 (ticks 29 leaving) (leaves 3) 0 (listedAs 5 9 5 ∷ [])
+    ∷ ordered 5 (ticks 30 leaving) (leaves 4) 0 (listedAs 5 9 5 ∷ [])
+    -- an answer of the wrong kind
+    ∷ ordered 5 leaving (confirms 5 5) 14 (listedAs 5 9 4 ∷ [])
+    ∷ ordered 5 (ticks 30 leaving) (confirms 5 5) 14 (listedAs 5 9 6 ∷ [])
+    ∷ ordered 5 (start then assigns 5) (leaves 1) 14 (listedAs 5 9 1 ∷ [])
+    ∷ ordered 5 (ticks 30 (start then assigns 5)) (leaves 1) 14 (listedAs 5 9 3 ∷ [])
+    -- a refused leave: a second answer, either kind; no tick moves it; assigned again, and confirmed
+    ∷ ordered 5 stayed (leaves 1) 14 (listedAs 5 9 5 ∷ [])
+    ∷ ordered 5 stayed (confirms 5 5) 14 (listedAs 5 9 5 ∷ [])
+    ∷ ordered 5 (ticks 29 stayed) tick 0 (listedAs 5 9 5 ∷ [])
+    ∷ ordered 5 stayed (assigns 5) 0 (listedAs 5 9 1 ∷ [])
+    ∷ ordered 5 (stayed then assigns 5) (leaves 1) 14 (listedAs 5 9 1 ∷ [])
+    ∷ ordered 5 (stayed then assigns 5) (confirms 5 5) 0 (listedAs 5 9 2 ∷ [])
+    -- a further deassign: from 0 ticks again, from 5 too; and at once where it asks for no acknowledgement
+    ∷ ordered 5 (ticks 28 (ticks 29 leaving then deassigns true)) tick 0 (listedAs 5 9 4 ∷ [])
+    ∷ ordered 5 stayed (deassigns true) 0 (listedAs 5 9 4 ∷ [])
+    ∷ ordered 5 leaving (deassigns false) 0 []
+    ∷ ordered 5 stayed (deassigns false) 0 []
+    -- with delete yes the acknowledgement asked for plays no part
+    ∷ ordered 5 (leaving then deletes 5 true) (defines 5) 0 []
     ∷ [])))
 
 -- ---- what they pass

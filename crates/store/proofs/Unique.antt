@@ -19,6 +19,8 @@ use Rattle.store.proofs.named.owned_by.Kinds as owned-by-kinds
 use Rattle.store.proofs.named.owned_by.Reads as owned-by
 use Rattle.store.proofs.named.any_group.Kinds as any-group-kinds
 use Rattle.store.proofs.named.any_group.Reads as any-group
+use Rattle.store.proofs.form.timed.Kinds as timed-kinds
+use Rattle.store.proofs.form.timed.Reads as timed
 use Rattle.store.proofs.form.roomy.Kinds as roomy-kinds
 use Rattle.store.proofs.form.roomy.Reads as roomy
 use Rattle.store.proofs.form.written.Kinds as written-kinds
@@ -50,6 +52,9 @@ owned-by-unique κs a r r′ s s′ p q = p ∙ sym q
 
 pub any-group-unique : Unique any-group-kinds.ps any-group-kinds.r any-group.Post
 any-group-unique κs a r r′ s s′ p q = p ∙ sym q
+
+pub timed-unique : Unique timed-kinds.ps timed-kinds.r timed.Post
+timed-unique κs a r r′ s s′ p q = p ∙ sym q
 
 pub roomy-unique : Unique roomy-kinds.ps roomy-kinds.r roomy.Post
 roomy-unique κs a r r′ s s′ p q = p ∙ sym q

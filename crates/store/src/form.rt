@@ -8,6 +8,8 @@ use rows::GROUP_COUNT;
 use rows::GROUP_WORDS;
 use rows::HEAD_WORDS;
 use rows::KEY_WORD;
+use rows::LEAVING;
+use rows::LEAVING_UNHEARD;
 use rows::LIFETIME_WORD;
 use rows::MAX_GROUPS;
 use rows::MAX_LETTERS;
@@ -24,7 +26,6 @@ use rows::PAIR_WORDS;
 use rows::REFERENCE_WORD;
 use rows::T1;
 use rows::TEMPORARY_WORD;
-use rows::UNHEARD;
 use rows::WAITING;
 ghost use Prim.Native.Nat.{_≤_};
 ghost use lib.Dec.{leb};
@@ -32,6 +33,7 @@ ghost use lib.ListN.{length, getD, take};
 ghost use mathlib.Core.Bool.{true};
 ghost use mathlib.Core.Path.{_≡_};
 ghost use Rattle.rules.specs.Lists.{any};
+ghost use Rattle.rules.specs.Mark.{timed};
 ghost use Rattle.rules.specs.Parameters.{badParameters};
 ghost use Rattle.rules.specs.Written.{maxOwners, goodOwners, goodMark};
 ghost use Rattle.rows.specs.Layout.{maxLetters, nameLength, ownerCount};
@@ -142,14 +144,21 @@ fn groups_ok(groups: &[[u64; GROUP_WORDS]], count: usize) -> bool
     true
 }
 
+// Whether a pair of this state is under T1.
+pub fn timed(state: u64) -> bool
+    ensures { λ r. ⌜ r ≡ timed state ⌝ }
+{
+    (state == WAITING) | (state == LEAVING)
+}
+
 // Whether a mark is in its range.
 fn mark_ok(row: [u64; PAIR_WORDS]) -> bool
     ensures { λ r. ⌜ r ≡ goodMark (pairOf row .1) ⌝ }
 {
-    if row[PAIR_STATE] == WAITING {
+    if timed(row[PAIR_STATE]) {
         return row[PAIR_TICKS] < T1;
     }
-    (row[PAIR_STATE] <= UNHEARD) & (row[PAIR_TICKS] == 0)
+    (row[PAIR_STATE] <= LEAVING_UNHEARD) & (row[PAIR_TICKS] == 0)
 }
 
 // Whether a pair of the group at hand is in its form, its radio none below `least`; its row is the row of the pair.

@@ -4,6 +4,8 @@ use order::Radios;
 use order::keys::group_count;
 use order::keys::radio_count;
 use order::lists::member;
+use rows::LEAVING;
+use rows::LEAVING_UNHEARD;
 use rows::PAIR_GROUP;
 use rows::PAIR_RADIO;
 use rows::PAIR_STATE;
@@ -11,43 +13,51 @@ use rows::PAIR_TICKS;
 use rows::PAIR_WORDS;
 use rows::T1;
 use rows::UNHEARD;
-use rows::WAITING;
 use rows::lesser;
+use store::form::timed;
 ghost use Prim.Native.Nat.{_≤_};
 ghost use lib.ListN.{length};
 ghost use mathlib.Core.Path.{_≡_};
 ghost use Rattle.rules.specs.Entries.{alter};
-ghost use Rattle.rules.specs.Mark.{ticked};
+ghost use Rattle.rules.specs.Mark.{expired, ticked};
 ghost use Rattle.order.specs.Keys.{groupKeys, radioKeys};
 ghost use Rattle.store.specs.Lists.{Fills};
 ghost use Rattle.store.specs.Storage.{pairOf, pairRow, pairsOf};
 ghost use Rattle.turning.specs.Turns.{named, staysOf, markOf, turnOf};
+ghost use Rattle.turning.specs.declared.Turn.the-variants.{Leave};
 
-// What becomes of the pairs: a tick, or those that an order names are taken away.
+// What becomes of the pairs: a tick, or those that an order names are taken away, or are leaving.
 pub enum Turn {
     Tick,
     Remove,
+    Leave,
 }
 
-// The last tick that a waiting pair counts.
+// The last tick that a pair under T1 counts.
 const LAST_TICK: u64 = T1 - 1;
 
-// A waiting pair counts one; at its 30th tick it is unheard.
+// The state of a pair after T1.
+fn expired(state: u64) -> u64
+    ensures { λ r. ⌜ r ≡ expired state ⌝ }
+{
+    if state == LEAVING {
+        return LEAVING_UNHEARD;
+    }
+    UNHEARD
+}
+
+// A pair under T1 counts one; at its 30th tick it is unheard.
 fn ticked_row(row: [u64; PAIR_WORDS]) -> [u64; PAIR_WORDS]
     ensures { λ r. ⌜ r ≡ pairRow (pairOf row .0, ticked (pairOf row .1)) ⌝ }
 {
-    if row[PAIR_STATE] == WAITING {
-        if LAST_TICK <= row[PAIR_TICKS] {
-            return [row[PAIR_GROUP], row[PAIR_RADIO], UNHEARD, 0];
-        }
-        return [
-            row[PAIR_GROUP],
-            row[PAIR_RADIO],
-            WAITING,
-            row[PAIR_TICKS] + 1,
-        ];
+    let state = row[PAIR_STATE];
+    if !timed(state) {
+        return row;
     }
-    row
+    if LAST_TICK <= row[PAIR_TICKS] {
+        return [row[PAIR_GROUP], row[PAIR_RADIO], expired(state), 0];
+    }
+    [row[PAIR_GROUP], row[PAIR_RADIO], state, row[PAIR_TICKS] + 1]
 }
 
 // Whether an order names this pair: its group and, where radios are listed, its radio.
@@ -69,15 +79,38 @@ fn stays(turn: Turn, groups: &[u64], listed: bool, radios: &[u64], row: [u64; PA
     match turn {
         Turn::Tick => true,
         Turn::Remove => !names(groups, listed, radios, row),
+        Turn::Leave => true,
     }
 }
 
-fn turned(turn: Turn, row: [u64; PAIR_WORDS]) -> [u64; PAIR_WORDS]
-    ensures { λ r. ⌜ r ≡ pairRow (pairOf row .0, markOf turn (pairOf row .1)) ⌝ }
+// A pair that the order names is leaving, from 0 ticks on.
+fn leaving_row(
+    groups: &[u64],
+    listed: bool,
+    radios: &[u64],
+    row: [u64; PAIR_WORDS],
+) -> [u64; PAIR_WORDS]
+    ensures { λ r. ⌜ r ≡ pairRow (pairOf row .0, markOf Leave (named (now (groups .entry)) listed (now (radios .entry)) (pairOf row .0)) (pairOf row .1)) ⌝ }
+{
+    if names(groups, listed, radios, row) {
+        return [row[PAIR_GROUP], row[PAIR_RADIO], LEAVING, 0];
+    }
+    row
+}
+
+fn turned(
+    turn: Turn,
+    groups: &[u64],
+    listed: bool,
+    radios: &[u64],
+    row: [u64; PAIR_WORDS],
+) -> [u64; PAIR_WORDS]
+    ensures { λ r. ⌜ r ≡ pairRow (pairOf row .0, markOf turn (named (now (groups .entry)) listed (now (radios .entry)) (pairOf row .0)) (pairOf row .1)) ⌝ }
 {
     match turn {
         Turn::Tick => ticked_row(row),
         Turn::Remove => row,
+        Turn::Leave => leaving_row(groups, listed, radios, row),
     }
 }
 
@@ -100,7 +133,7 @@ fn turn_rows(
         let row = pairs[i];
         i += 1;
         if stays(turn, groups, listed, radios, row) {
-            pairs[kept] = turned(turn, row);
+            pairs[kept] = turned(turn, groups, listed, radios, row);
             kept += 1;
         }
     }

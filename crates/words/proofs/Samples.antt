@@ -4,8 +4,9 @@ use mathlib.Core.List.{List, [], _∷_, _++_}
 use Prim.Native.Nat.{ℕ}
 use lib.ListN.{length, replicate}
 use Rattle.house.specs.Hex.{digitValue}
+use Rattle.rules.specs.declared.AnswerKind.the-variants.{Assignment, Deassignment}
 use Rattle.order.specs.declared.GroupAsked.the-variants.{Whole, Plain}
-use Rattle.words.specs.Words.{standsAt, markAt, bad, enoughAt, digitsAt, numberAt, groupAt, roomAt, eitherAt, choiceAt}
+use Rattle.words.specs.Words.{standsAt, markAt, bad, enoughAt, digitsAt, numberAt, groupAt, roomAt, eitherAt, choiceAt, kindAt}
 use Rattle.words.specs.Series.{identityWith, nobody, namedAt, itemAt, listed, listFrom, seriesAt, noList, seriesOrNoneAt}
 
 -- so many zeros
@@ -48,6 +49,15 @@ list-sample = refl
 pub choice-sample : choiceAt line 46 ≡ record { value = 1; next = 48 }
 unfolding eitherAt markAt standsAt
 choice-sample = refl
+
+-- d, and a
+pub deassignment-sample : kindAt (32 ∷ 100 ∷ []) 0 ≡ record { kind = Deassignment; next = 2 }
+unfolding eitherAt markAt standsAt
+deassignment-sample = refl
+
+pub assignment-sample : kindAt (32 ∷ 97 ∷ []) 0 ≡ record { kind = Assignment; next = 2 }
+unfolding eitherAt markAt standsAt
+assignment-sample = refl
 
 pub none-sample : seriesOrNoneAt line 50 ≡ noList (length line)
 unfolding seriesOrNoneAt markAt standsAt

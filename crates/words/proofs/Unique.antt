@@ -17,6 +17,8 @@ use Rattle.words.proofs.room.Kinds as room-kinds
 use Rattle.words.proofs.room.Reads as room
 use Rattle.words.proofs.choice.Kinds as choice-kinds
 use Rattle.words.proofs.choice.Reads as choice
+use Rattle.words.proofs.kind.Kinds as kind-kinds
+use Rattle.words.proofs.kind.Reads as kind
 use Rattle.words.proofs.identity.Kinds as identity-kinds
 use Rattle.words.proofs.identity.Reads as identity
 use Rattle.words.proofs.series.Kinds as series-kinds
@@ -51,6 +53,10 @@ module _ (κs : Lfts 1) (a : Dens κs room-kinds.ps) (r r′ : resT room-kinds.r
 module _ (κs : Lfts 1) (a : Dens κs choice-kinds.ps) (r r′ : resT choice-kinds.r κs .Denot) (s s′ : AtExit (endedOf 1 choice-kinds.ps choice-kinds.r) κs) where
   pub choice-unique : choice.Post κs a r s → choice.Post κs a r′ s′ → r ≡ r′
   choice-unique p q = p ∙ sym q
+
+module _ (κs : Lfts 1) (a : Dens κs kind-kinds.ps) (r r′ : resT kind-kinds.r κs .Denot) (s s′ : AtExit (endedOf 1 kind-kinds.ps kind-kinds.r) κs) where
+  pub kind-unique : kind.Post κs a r s → kind.Post κs a r′ s′ → r ≡ r′
+  kind-unique p q = p ∙ sym q
 
 module _ (κs : Lfts 1) (a : Dens κs identity-kinds.ps) (r r′ : resT identity-kinds.r κs .Denot)
     (s s′ : AtExit (endedOf 1 identity-kinds.ps identity-kinds.r) κs) where

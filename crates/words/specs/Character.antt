@@ -24,3 +24,9 @@ letterN = 78
 
 abbrev pub letterY : ℕ
 letterY = 89
+
+abbrev pub letterA : ℕ
+letterA = 97
+
+abbrev pub letterD : ℕ
+letterD = 100

@@ -11,7 +11,9 @@ use Rattle.words.specs.declared.TakenShort.{TakenShort}
 use Rattle.order.specs.declared.GroupAsked.the-variants.{Whole, Plain}
 use Rattle.words.specs.declared.TakenNumber.{TakenNumber}
 use Rattle.words.specs.declared.TakenGroup.{TakenGroup}
-use Rattle.words.specs.Character.{blank, slash, letterN, letterY}
+use Rattle.words.specs.declared.TakenKind.{TakenKind}
+use Rattle.rules.specs.declared.AnswerKind.the-variants.{Assignment, Deassignment}
+use Rattle.words.specs.Character.{blank, slash, letterN, letterY, letterA, letterD}
 
 -- a place where no line has a character, so that no reader comes back from it
 abbrev pub nowhere : ℕ
@@ -83,3 +85,9 @@ eitherAt line at one other =
 -- a blank and Y, which is 1, or N, which is 0
 abbrev pub choiceAt : List ℕ → ℕ → Taken
 choiceAt line at = eitherAt line at letterY letterN
+
+-- a blank and a, for an assignment, or d, for a deassignment
+abbrev pub kindAt : List ℕ → ℕ → TakenKind
+kindAt line at =
+    let taken = eitherAt line at letterD letterA in
+    record { kind = cond (eqb (taken .value) 1) Deassignment Assignment; next = taken .next }

@@ -5,10 +5,11 @@ use order::Gtsi;
 use order::Identity;
 use order::Listed;
 use order::Numbers;
+use rules::AnswerKind;
 ghost use Prim.Native.Nat.{_≤_};
 ghost use mathlib.Core.Path.{_≡_};
 ghost use Rattle.house.specs.Hex.{digitValue};
-ghost use Rattle.words.specs.Words.{standsAt, markAt, bad, enoughAt, digitsAt, shortAt, wordAt, numberAt, groupAt, roomAt, eitherAt, choiceAt};
+ghost use Rattle.words.specs.Words.{standsAt, markAt, bad, enoughAt, digitsAt, shortAt, wordAt, numberAt, groupAt, roomAt, eitherAt, choiceAt, kindAt};
 ghost use Rattle.words.specs.Series.{identityWith, namedAt, identityAt, itemAt, seriesAt, noList, seriesOrNoneAt};
 
 // The place behind a bad word: past the end of every line.
@@ -48,6 +49,12 @@ pub struct TakenNumber {
 // A GROUP, and the place behind it.
 pub struct TakenGroup {
     pub group: GroupAsked,
+    pub next: usize,
+}
+
+// What an answer is for, and the place behind it.
+pub struct TakenKind {
+    pub kind: AnswerKind,
     pub next: usize,
 }
 
@@ -220,6 +227,23 @@ pub fn choice(line: &[u8], at: usize) -> Taken
     ensures { λ r. ⌜ r ≡ choiceAt (now (line .entry)) at ⌝ }
 {
     either(line, at, b'Y', b'N')
+}
+
+// A blank and a, for an assignment, or d, for a deassignment.
+pub fn kind(line: &[u8], at: usize) -> TakenKind
+    ensures { λ r. ⌜ r ≡ kindAt (now (line .entry)) at ⌝ }
+{
+    let taken = either(line, at, b'd', b'a');
+    if taken.value == 1 {
+        return TakenKind {
+            kind: AnswerKind::Deassignment,
+            next: taken.next,
+        };
+    }
+    TakenKind {
+        kind: AnswerKind::Assignment,
+        next: taken.next,
+    }
 }
 
 // The identity that a form and two values make: the first is the SNA in form 0, else the SSI.
