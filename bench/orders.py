@@ -37,7 +37,7 @@ def define_one(i):
 
 
 def delete_one(i):
-    return f"X {number(ASKER)} {ROOM:04X} 0:1.{FIRST + i:08X}.00000000 Y Y -"
+    return f"X {number(ASKER)} {ROOM:04X} 0:1.{FIRST + i:08X}.00000000 Y Y - N"
 
 
 def mix(count, seed):
@@ -57,7 +57,7 @@ def mix(count, seed):
             yield define(groups, [(s + k) % 6 + 1 for k in range(5)], rnd(2) == 1)
         elif op < 11:
             group, radio = FIRST + rnd(GROUPS), rnd(6) + 1
-            yield f"A {number(radio)} {number(group)} {1 if rnd(8) else 2:02X}"
+            yield f"A {number(radio)} {number(group)} {1 if rnd(8) else 2:02X} a"
         elif op == 11:
             yield "T 0001"
         elif op < 15:
@@ -72,7 +72,7 @@ def mix(count, seed):
 
 def form():
     """An answer of a radio above 24 bits: 10, which comes next to 18."""
-    return f"A {number(2**24)} {number(FIRST)} 01"
+    return f"A {number(2**24)} {number(FIRST)} 01 a"
 
 
 def checksum(replies):
