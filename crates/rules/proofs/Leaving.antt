@@ -1,4 +1,4 @@
--- How radios leave a group: an acknowledged deassign takes none away, and a pair of a group that stands goes by three ways alone.
+-- How radios leave a group: an acknowledged deassign takes none away; three ways take a pair away, and of a group that stands no other does.
 use Prim.Native.Nat.{ℕ}
 use mathlib.Core.Path.{_≡_, refl, sym, _∙_, ap}
 use mathlib.Core.Bool.{Bool, true, false, cond, not, _&&_, _||_}
@@ -6,7 +6,7 @@ use mathlib.Core.List.{[], _∷_}
 use mathlib.Core.Option.{Option, none, some}
 use lib.Dec.{eqb, ltb}
 use native.Mathlib.Omega.{arith}
-use borrow.Author.Tests.{eqb-true, eqb-false, ltb-false, not-false}
+use borrow.Author.Tests.{eqb-true, eqb-false, eq-eqb, ne-eqb, ltb-false, not-false}
 use Rattle.rules.specs.Lists.{mem, present, turned}
 use Rattle.rules.specs.Number.{key, wideNumber}
 use Rattle.rules.specs.Mark.{Mark, noneWanted, leaving, fresh, begun, ticked, open?, answered}
@@ -20,7 +20,7 @@ use Rattle.rules.specs.History.{History, _then_, world, stands, mark, re
 use Rattle.rules.specs.Leaving.{Acknowledged, names, LeavesAll, Answers, LetsGo, unacknowledged, letGo, declined}
 use Rattle.rules.specs.declared.AnswerKind.{AnswerKind}
 use Rattle.rules.specs.declared.AnswerKind.the-variants.{Assignment, Deassignment}
-use Rattle.rules.proofs.Tests.{split, clash, and-l, and-r, or-l, or-r}
+use Rattle.rules.proofs.Tests.{split, clash, and-in, and-l, and-r, or-l, or-r}
 use Rattle.rules.proofs.LawOrder.{tests-pass}
 use Rattle.rules.proofs.Written.{none-refused}
 use Rattle.rules.proofs.Anew.{testsIn, world-taken}
@@ -79,6 +79,29 @@ gone : (b : Bool) (left x : Option Mark) → present x ≡ true → turned (λ m
 gone b left none p e = clash (sym p)
 gone true left (some m) p e = (refl, e)
 gone false left (some m) p e = clash (ap present e)
+
+-- and where it was to go with nothing left, it is gone
+goes : (b : Bool) (left x : Option Mark) → b ≡ true → left ≡ none → turned (λ m. cond b left (some m)) x ≡ none
+goes b left none p q = refl
+goes b left (some m) p q = rw (p, q) refl
+
+module _ (h : History) (g r : ℕ) where
+  -- an accepted answer for the pair whose result leaves nothing
+  answer-goes : (what : AnswerKind) (a : Answer) → Answers h g r what a → answered what (a .result) ≡ none → refusalIn h (answer a) ≡ none
+      → mark (h then answer a) g r ≡ none
+  answer-goes what a k n e =
+      let here = and-in (eq-eqb g (key (a .group)) (sym (k .group))) (eq-eqb r (key (a .radio)) (sym (k .radio))) in
+      ap (λ (w : World). w .mark g r) (world-taken h (answer a) e)
+      ∙ goes (eqb g (key (a .group)) && eqb r (key (a .radio))) (answered (a .kind) (a .result)) (mark h g r) here
+      (ap (λ (x : AnswerKind). answered x (a .result)) (k .kind) ∙ n)
+
+  -- each of the three takes the pair away, where it is accepted, whatever its state was
+  pub lets-go : (s : Step) → LetsGo h g r s → refusalIn h s ≡ none → mark (h then s) g r ≡ none
+  lets-go _ (unacknowledged o room stays silent named) e =
+      ap (λ (w : World). w .mark g r) (world-taken h (delete o room) e)
+      ∙ goes (mem g (deleteGroups o) && leaves o r) (parted o) (mark h g r) (rw stays named) (rw (stays, silent) refl)
+  lets-go _ (letGo a k one) e = answer-goes Deassignment a k (rw one refl) e
+  lets-go _ (declined a k more few) e = answer-goes Assignment a k (rw (ne-eqb (a .result) 1 (λ (q : a .result ≡ 1). omega (arith, more, q))) refl) e
 
 module _ (h : History) (g r : ℕ) (there : present (mark h g r) ≡ true) where
   module _ (a : Answer) (e : refusalIn h (answer a) ≡ none) (k : (eqb g (key (a .group)) && eqb r (key (a .radio))) ≡ true) where

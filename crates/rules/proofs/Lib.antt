@@ -18,6 +18,7 @@ pub mod Keys
 pub mod Consecutive
 pub mod InRange
 pub mod RangeSamples
+pub mod MarkSamples
 pub mod Ranges
 pub mod Written
 pub mod Listing

@@ -4,7 +4,7 @@
 use Prim.Native.Nat.{ℕ, zero, suc, _-_}
 use mathlib.Core.Bool.{Bool, true, false, _&&_}
 use mathlib.Core.List.{List, [], _∷_, _++_, map}
-use mathlib.Core.Option.{none, some}
+use mathlib.Core.Option.{Option, none, some}
 use lib.Dec.{eqb}
 use lib.ListN.{length, replicate}
 use Rattle.refusal.specs.Number.{numberOf}
@@ -16,7 +16,7 @@ use Rattle.layout.specs.declared.Written.{Written}
 use Rattle.layout.specs.declared.Written.the-variants as written
 use Rattle.layout.specs.Shape.{Yes, No}
 use Rattle.layout.specs.Frame.{places, readingOf, writtenOf, outputOf}
-use Rattle.rules.specs.Number.{key, plain}
+use Rattle.rules.specs.Number.{Numbers, key, plain}
 use Rattle.rules.specs.declared.AnswerKind.{AnswerKind}
 use Rattle.rules.specs.declared.AnswerKind.the-variants.{Assignment, Deassignment}
 use Rattle.rules.specs.Order.{Step, define, delete, answer, handover, tick}
@@ -61,13 +61,16 @@ one identity = listed 0 identity
 abbrev group : ℕ → List ℕ
 group g = No ∷ 0 ∷ Yes ∷ 0 ∷ one (ssi g)
 
--- the rest of it, from the O-bit on: assign these radios, acknowledgement requested
+-- the rest of it, from the O-bit on: assign these radios; acknowledgement requested
 abbrev assign : List ℕ → List ℕ
-assign radios = 1 ∷ replicate (assignment - setReference) 0 ++ (1 ∷ Yes ∷ radios) ++ (1 ∷ Yes ∷ [])
+assign radios = 1 ∷ replicate (assignment - setReference) 0 ++ (1 ∷ Yes ∷ radios)
+
+abbrev requested : List ℕ
+requested = 1 ∷ Yes ∷ []
 
 -- asker 1 of extension x defines group 5 and assigns radios, with room for so many outgoing orders
 abbrev pub assignsAll : ℕ → List ℕ → ℕ → Step
-assignsAll x radios room = define (defineOf (plain x 1) (group 5 ++ assign radios)) room
+assignsAll x radios room = define (defineOf (plain x 1) (group 5 ++ assign radios ++ requested)) room
 
 -- he assigns radio 9
 abbrev assigns : ℕ → Step
@@ -108,16 +111,24 @@ deletes x asks = delete (record {
   acknowledgement = asks;
 }) 0
 
--- he deassigns radio 9 from group 5, both of extension 5, and asks for acknowledgement or does not
-abbrev deassigns : Bool → Step
-deassigns asks = delete (record {
+-- he assigns radio 9 to group 5, both of extension 5, and requests no acknowledgement
+abbrev silently : Step
+silently = define (defineOf (plain 5 1) (group 5 ++ assign (one (ssi 9)))) 1
+
+-- he deassigns radios from group 5, with so much room, and asks for acknowledgement or does not
+abbrev deassignsIn : ℕ → Option Numbers → Bool → Step
+deassignsIn room radios asks = delete (record {
   asker = plain 5 1;
   groups = numbersAt (one (ssi 5)) 0;
   delete = false;
   deassign = true;
-  radios = some (numbersAt (one (ssi 9)) 0);
+  radios = radios;
   acknowledgement = asks;
-}) 1
+}) room
+
+-- radio 9, with the room for its order
+abbrev deassigns : Bool → Step
+deassigns = deassignsIn 1 (some (numbersAt (one (ssi 9)) 0))
 
 -- radio 9 of extension y answers for group 5 of extension x
 abbrev answers : ℕ → ℕ → AnswerKind → ℕ → Step
@@ -270,6 +281,24 @@ samples =
     ∷ ordered 5 stayed (deassigns true) 0 (listedAs 5 9 4 ∷ [])
     ∷ ordered 5 leaving (deassigns false) 0 []
     ∷ ordered 5 stayed (deassigns false) 0 []
+    -- one who would not leave is a member, and is sent an order again; all members are deassigned where none are listed
+    ∷ ordered 5 stayed (deassignsIn 0 none true) 17 (listedAs 5 9 5 ∷ [])
+    ∷ ordered 5 (start then assigns 5) (deassignsIn 0 none true) 17 (listedAs 5 9 1 ∷ [])
+    ∷ ordered 5 (start then assigns 5) (deassignsIn 1 none true) 0 (listedAs 5 9 4 ∷ [])
+    ∷ ordered 5 (start then assigns 5) (deassignsIn 1 none false) 0 []
+    -- no other state is under T1 or open for an answer: none wanted, confirmed, and unheard once it is
+    ∷ ordered 5 start silently 0 (listedAs 5 9 0 ∷ [])
+    ∷ ordered 5 (ticks 29 (start then silently)) tick 0 (listedAs 5 9 0 ∷ [])
+    ∷ ordered 5 (start then silently) (confirms 5 5) 14 (listedAs 5 9 0 ∷ [])
+    ∷ ordered 5 (start then silently) (leaves 1) 14 (listedAs 5 9 0 ∷ [])
+    ∷ ordered 5 (ticks 29 (start then assigns 5 then confirms 5 5)) tick 0 (listedAs 5 9 2 ∷ [])
+    ∷ ordered 5 (start then assigns 5 then confirms 5 5) (leaves 1) 14 (listedAs 5 9 2 ∷ [])
+    ∷ ordered 5 (ticks 59 leaving) tick 0 (listedAs 5 9 6 ∷ [])
+    -- no pair, no group; an assignment that the radio declines
+    ∷ ordered 5 (leaving then leaves 1) (leaves 1) 14 []
+    ∷ ordered 5 (start then assigns 5) (answers 6 5 Assignment 1) 12 (listedAs 5 9 1 ∷ [])
+    ∷ ordered 5 (start then assigns 5) (answers 5 5 Assignment 2) 0 []
+    ∷ ordered 5 (start then assigns 5) (answers 5 5 Assignment 4) 0 []
     -- with delete yes the acknowledgement asked for plays no part
     ∷ ordered 5 (leaving then deletes 5 true) (defines 5) 0 []
     ∷ [])))
