@@ -11,7 +11,7 @@ use Rattle.layout.specs.declared.Record.{Record}
 use Rattle.rules.specs.Lists.{mem}
 use Rattle.rules.specs.Number.{Number, key, wideNumber}
 use Rattle.rules.specs.Named.{numbers}
-use Rattle.rules.specs.Order.{Delete, Step, define, delete, defineGroups}
+use Rattle.rules.specs.Order.{define, delete, defineGroups}
 use Rattle.rules.specs.Recorded.{defineOf}
 use Rattle.rules.specs.Ledger.{list}
 use Rattle.rules.specs.History.{History, _then_, refusalIn, sentIn, listIn}
@@ -31,7 +31,7 @@ use Rattle.replies.specs.declared.Sent.the-variants.{Orders}
 use Rattle.replies.specs.declared.Members.{Members}
 use Rattle.replies.specs.declared.Members.the-variants.{Radios}
 use Rattle.replies.specs.declared.Shown.{Shown}
-use Rattle.demand.specs.Arguments.{Deletion, deletionStep}
+use Rattle.demand.specs.Arguments.{Deletion, deletionOrder, deletionStep}
 use Rattle.demand.specs.Calls.{Defines, Deletes, Lists, Shows}
 use Rattle.demand.specs.Runs.{Kept, defined, deleted}
 use Rattle.demand.proofs.Demand.{demand}
@@ -58,10 +58,6 @@ pub sent-none : (o : Option Refusal) (n k : ℕ) → Orders n ≡ sentReply o k 
 sent-none none n k e = refl
 sent-none (some r) n k e = let z : _≡_ {A = ℕ} 0 1 = cc in absurd (omega arith)
 
--- the order of a step that is a delete
-abbrev orderOf : {o : Delete} {room : ℕ} (s : Step) → s ≡ delete o room → Delete
-orderOf {o} s e = o
-
 -- an accepted delete takes the group away, an accepted define without radios makes it again: the list of the define's asker
 -- is empty, and leaves its room as it was, whatever radios the group had
 pub again-empty : {c₀ c₁ c₂ : Contents} {h : History} → Kept c₀ h
@@ -83,6 +79,6 @@ again-empty {h = h} k {d} {space} {n = n} a removes {maker} {values} {space′} 
     let l : listIn (h then s then s′) (radioNumber maker) g (length room) ≡ record { refused = none; entries = [] } =
     sym (list-agree placing by-number (h then s then s′) (radioNumber maker) g (length room))
     ∙ ap (λ (x : Number). list (run placing (h then s then s′)) x g (length room)) (sym (defined-by (radioNumber maker) (values .place)))
-    ∙ rules.again-empty placing by-number h (orderOf s refl) o g (length space) (length space′) (length room) narrow taken removes gone taken′ made empty in
+    ∙ rules.again-empty placing by-number h (deletionOrder d) o g (length space) (length space′) (length room) narrow taken removes gone taken′ made empty in
     let f = demand (defined k₁ b) .lists e in
     (f .0 ∙ ap membersOf l, f .1 ∙ (λ i. onto (map entryRow (l i .entries)) room))

@@ -110,15 +110,16 @@ module _ (p : Placing) (laws : Lawful p) (h : History) where
         parameters = cond (accepted (taken i)) (world h .parameters (key g)) noParameters;
       }
 
+-- something is told of a pair where there is one
+pub told-present : (o : Option Mark) → present (told o) ≡ present o
+told-present none = refl
+told-present (some m) = refl
+
 -- an exact list has radios in range
 pub exact-narrow : (h : History) (g : ℕ) (l : List Entry) → Exactly h g l → (r : ℕ) → mem r (entryRadios l) ≡ true → wideKey r ≡ false
 exact-narrow h g l x r m = radio-narrow byNumber by-number h g r
     (sym (told-present (mark h g r)) ∙ sym (ap present (x .says r)) ∙ sym (entries-found l r) ∙ m)
   where
-    told-present : (o : Option Mark) → present (told o) ≡ present o
-    told-present none = refl
-    told-present (some s) = refl
-
     entries-found : (l : List Entry) (r : ℕ) → mem r (entryRadios l) ≡ present (find eqb l r)
     entries-found [] r = refl
     entries-found (e ∷ l) r = split (eqb r (e .0)) (λ q. rw q refl) (λ q. rw q (entries-found l r))

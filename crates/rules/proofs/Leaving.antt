@@ -24,6 +24,7 @@ use Rattle.rules.proofs.Tests.{split, clash, and-in, and-l, and-r, or-l
 use Rattle.rules.proofs.LawOrder.{tests-pass}
 use Rattle.rules.proofs.Written.{none-refused}
 use Rattle.rules.proofs.Anew.{testsIn, world-taken}
+use Rattle.rules.proofs.Visitor.{turned-same}
 use Rattle.rules.proofs.Ownership.{either}
 
 -- ---- an acknowledged deassign ----
@@ -41,10 +42,6 @@ module _ (h : History) (o : Delete) (room : ℕ) (k : Acknowledged o) where
   turned-stays true (some m) = rw pairs-leaving refl
   turned-stays false (some m) = refl
 
-  turned-same : (b : Bool) (x : Option Mark) → b ≡ false → turnedBy b x ≡ x
-  turned-same b none e = refl
-  turned-same b (some m) e = rw e refl
-
   turned-leaving : (b : Bool) (x : Option Mark) → b ≡ true → present x ≡ true → turnedBy b x ≡ some (fresh leaving)
   turned-leaving b none e p = clash (sym p)
   turned-leaving b (some m) e p = rw (e, pairs-leaving) refl
@@ -60,7 +57,7 @@ module _ (h : History) (o : Delete) (room : ℕ) (k : Acknowledged o) where
         (turned-stays (mem g (deleteGroups o) && leaves o r) (mark h g r)) refl;
     others = λ g r n. either (accepted (refusalIn h (delete o room))) (λ w. w .mark g r ≡ mark h g r)
         (after (world h) (effect (world h) (delete o room))) (world h)
-        (turned-same (mem g (deleteGroups o) && leaves o r) (mark h g r) (by-name g r ∙ n)) refl;
+        (turned-same _ (λ m. rw (by-name g r ∙ n) refl) (mark h g r)) refl;
     named = λ e g r n p. ap (λ (w : World). w .mark g r) (world-taken h (delete o room) e)
         ∙ turned-leaving (mem g (deleteGroups o) && leaves o r) (mark h g r) (by-name g r ∙ n) p;
   }

@@ -20,7 +20,7 @@ use Rattle.rules.proofs.Tests.{split, and-false}
 use Rattle.rules.proofs.Keys.{keys-same}
 
 -- what leaves a mark as it is
-turned-same : (f : Mark → Option Mark) → ((m : Mark) → f m ≡ some m) → (o : Option Mark) → turned f o ≡ o
+pub turned-same : (f : Mark → Option Mark) → ((m : Mark) → f m ≡ some m) → (o : Option Mark) → turned f o ≡ o
 turned-same f h none = refl
 turned-same f h (some m) = h m
 
