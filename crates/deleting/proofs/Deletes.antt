@@ -9,8 +9,7 @@ use lib.ListN.{length, set}
 use Rattle.refusal.specs.declared.Refusal.{Refusal}
 use Rattle.rules.specs.Lists.{present, mem, join}
 use Rattle.rules.specs.Entries.{alter}
-use Rattle.rules.specs.Mark.{Mark, fresh}
-use Rattle.rules.specs.Mark as mark
+use Rattle.rules.specs.Mark.{Mark, leaving, fresh}
 use Rattle.rules.specs.Number.{key}
 use Rattle.rules.specs.Named.{numbersIn, tooMany, maxNumbers}
 use Rattle.rules.specs.Order.{Step}
@@ -41,7 +40,7 @@ use Rattle.replies.specs.declared.Reply.the-variants.{Done, Refused}
 use Rattle.replies.proofs.Orders.{set-both, form-refuses, stand-tells, alter-same}
 use Rattle.turning.specs.Turns.{staysOf, markOf, turnOf}
 use Rattle.turning.specs.declared.Turn.the-variants.{Remove, Leave}
-use Rattle.deleting.specs.Leaving.{among, leaving, leavingOrders}
+use Rattle.deleting.specs.Deassigned.{among, deassigned, deassignOrders}
 use Rattle.deleting.specs.Deletes.{formTests, standTests, parting, groupsLeft, pairsLeft}
 
 given-present : {A : Type 0} (b : Bool) (x : A) → present (cond b (some x) none) ≡ b
@@ -58,7 +57,7 @@ module _ (c : Contents) (w : Sound c) where
   -- all members are the radios of the group's stretch
   all-leave : (leave listed : Bool) (radios : List ℕ) (g : ℕ)
       → orders deassign g (cond leave (cond listed (among (ledgerOf c .pairs) g radios) (members (ledgerOf c) g)) [])
-      ≡ orders deassign g (leaving leave listed radios (ledgerOf c .pairs) g)
+      ≡ orders deassign g (deassigned leave listed radios (ledgerOf c .pairs) g)
   all-leave leave listed radios g =
       ap (λ (z : List ℕ). orders deassign g (cond leave (cond listed (among (ledgerOf c .pairs) g radios) z) []))
       (sym (stretch-members (ledgerOf c) g (pairs-rise c w)))
@@ -83,7 +82,7 @@ module _ (c : Contents) (w : Sound c) where
     stands = standTests (ledgerOf c .groups) (ledgerOf c .pairs) (key (radioNumber asker)) gs remove deassign (radios .given) rs room
 
     pub delete-sends : outgoing (view (ledgerOf c)) (tally placing (ledgerOf c) (effect (view (ledgerOf c)) step)) step
-        ≡ leavingOrders deassign (radios .given) rs (ledgerOf c .pairs) gs
+        ≡ deassignOrders deassign (radios .given) rs (ledgerOf c .pairs) gs
     delete-sends = rw given (join-same _ _
         (λ g. rw (given-present (radios .given) (numbersOf (radios .numbers))) (all-leave deassign (radios .given) rs g))
         (numbersIn (asker .1) (some (numbersOf (named .numbers)))))
@@ -124,7 +123,7 @@ module _ (c : Contents) (w : Sound c) where
     -- a delete that is taken has something to do, and room for its orders
     pub delete-passed : refused placing (ledgerOf c) step ≡ none
         → ((not remove && not deassign) ≡ false)
-        × (length (leavingOrders deassign (radios .given) rs (ledgerOf c .pairs) gs) ≤ room)
+        × (length (deassignOrders deassign (radios .given) rs (ledgerOf c .pairs) gs) ≤ room)
     delete-passed e =
         let l = tests (view (ledgerOf c)) (tally placing (ledgerOf c) (effect (view (ledgerOf c)) step)) step in
         (tests-pass l e 6, rw (← delete-sends) (ltb-false room _ (tests-pass l e 7)))
@@ -135,7 +134,7 @@ module _ (c : Contents) (w : Sound c) where
 module _ (m : Mark) where
   -- whether they stay, leaving, and whether the pair is one of them
   turns : (leave x : Bool) → cond (staysOf (cond leave Leave Remove) x) (some (markOf (cond leave Leave Remove) x m)) none
-      ≡ cond x (cond leave (some (fresh mark.leaving)) none) (some m)
+      ≡ cond x (cond leave (some (fresh leaving)) none) (some m)
   turns true true = refl
   turns true false = refl
   turns false true = refl
@@ -143,7 +142,7 @@ module _ (m : Mark) where
 
   deleted-turn : (remove deassign : Bool) → (not remove && not deassign) ≡ false → (listed : Bool) (gs rs : List ℕ) (ack : Bool) (k : Pair)
       → turnOf (parting remove ack) gs (listed && not remove) rs k m
-      ≡ cond (mem (k .0) gs && (remove || (deassign && cond listed (mem (k .1) rs) true))) (cond (not remove && ack) (some (fresh mark.leaving)) none) (some m)
+      ≡ cond (mem (k .0) gs && (remove || (deassign && cond listed (mem (k .1) rs) true))) (cond (not remove && ack) (some (fresh leaving)) none) (some m)
   deleted-turn true deassign e true gs rs ack k = turns false (mem (k .0) gs && true)
   deleted-turn true deassign e false gs rs ack k = turns false (mem (k .0) gs && true)
   deleted-turn false true e true gs rs ack k = turns ack (mem (k .0) gs && mem (k .1) rs)

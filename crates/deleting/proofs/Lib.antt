@@ -1,4 +1,4 @@
 -- Laws of a delete.
-pub mod LeavingLaws
+pub mod DeassignedLaws
 pub mod Deletes
 pub mod Unique

@@ -22,7 +22,7 @@ use Rattle.store.specs.declared.Standing.the-variants.{Missing, Foreign}
 use Rattle.turning.specs.Turns.{turnOf}
 use Rattle.turning.specs.declared.Turn.{Turn}
 use Rattle.turning.specs.declared.Turn.the-variants.{Remove, Leave}
-use Rattle.deleting.specs.Leaving.{leavingOrders, remaining}
+use Rattle.deleting.specs.Deassigned.{deassignOrders, remaining}
 
 -- the tests of its form
 abbrev pub formTests : Itsi → Listed → Bool → Listed → List (Refusal × Bool)
@@ -39,7 +39,7 @@ standTests groups pairs asker named remove deassign listed radios room =
     (NoSuchGroup, any (λ g. groupFault Missing (find eqb groups g) asker) named)
     ∷ (NotOwner, any (λ g. groupFault Foreign (find eqb groups g) asker) named)
     ∷ (NothingToDo, not remove && not deassign)
-    ∷ (NoRoom, ltb room (length (leavingOrders deassign listed radios pairs named)))
+    ∷ (NoRoom, ltb room (length (deassignOrders deassign listed radios pairs named)))
     ∷ []
 
 -- ---- what a delete leaves ----

@@ -1,3 +1,3 @@
 -- The definitions that the contracts of a delete cite.
-pub mod Leaving
+pub mod Deassigned
 pub mod Deletes

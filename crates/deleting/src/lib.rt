@@ -1,5 +1,5 @@
 // A delete: the named groups, or radios of them, go.
-mod leaving;
+mod deassigned;
 mod outgoing;
 mod refusing;
 mod remaining;

@@ -1,6 +1,6 @@
 // The orders of a delete, in lent room.
-use crate::leaving::count_leaving;
-use crate::leaving::push_leaving;
+use crate::deassigned::count_deassigned;
+use crate::deassigned::push_deassigned;
 use order::Groups;
 use order::Radios;
 use order::keys::group_at;
@@ -14,7 +14,7 @@ ghost use Rattle.order.specs.Keys.{groupKeys, radioKeys};
 ghost use Rattle.store.specs.Lists.{Fills};
 ghost use Rattle.store.specs.Storage.{pairsOf};
 ghost use Rattle.replies.specs.Sending.{orderRow};
-ghost use Rattle.deleting.specs.Leaving.{leavingOrders, Stretches};
+ghost use Rattle.deleting.specs.Deassigned.{deassignOrders, Stretches};
 
 // How many orders a delete sends.
 pub fn count_orders(
@@ -26,13 +26,13 @@ pub fn count_orders(
     radios: Radios,
 ) -> usize
     requires { ⌜ Stretches count (now pairs) ⌝ }
-    ensures { λ r. ⌜ r ≡ length (leavingOrders deassign listed (radioKeys radios) (pairsOf count (now (pairs .entry))) (groupKeys named)) ⌝ }
+    ensures { λ r. ⌜ r ≡ length (deassignOrders deassign listed (radioKeys radios) (pairsOf count (now (pairs .entry))) (groupKeys named)) ⌝ }
 {
     let end = group_count(named);
     let mut total: usize = 0;
     let mut i: usize = 0;
     while i < end {
-        total += count_leaving(pairs, count, group_at(named, i), deassign, listed, radios);
+        total += count_deassigned(pairs, count, group_at(named, i), deassign, listed, radios);
         i += 1;
     }
     total
@@ -49,8 +49,8 @@ pub fn send_orders(
     out: &mut [[u64; ORDER_WORDS]],
 ) -> usize
     requires { ⌜ Stretches count (now pairs)
-        × (length (leavingOrders deassign listed (radioKeys radios) (pairsOf count (now pairs)) (groupKeys named)) ≤ length (now out)) ⌝ }
-    ensures { λ r. ⌜ Fills orderRow (leavingOrders deassign listed (radioKeys radios) (pairsOf count (now (pairs .entry))) (groupKeys named))
+        × (length (deassignOrders deassign listed (radioKeys radios) (pairsOf count (now pairs)) (groupKeys named)) ≤ length (now out)) ⌝ }
+    ensures { λ r. ⌜ Fills orderRow (deassignOrders deassign listed (radioKeys radios) (pairsOf count (now (pairs .entry))) (groupKeys named))
         (now (out .entry)) (now (out .exit)) r ⌝ }
 {
     let end = group_count(named);
@@ -58,7 +58,7 @@ pub fn send_orders(
     let mut i: usize = 0;
     while i < end {
         let group = group_at(named, i);
-        at += push_leaving(pairs, count, group, deassign, listed, radios, out, at);
+        at += push_deassigned(pairs, count, group, deassign, listed, radios, out, at);
         i += 1;
     }
     at

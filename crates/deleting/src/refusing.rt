@@ -33,7 +33,7 @@ ghost use Rattle.order.specs.Steps.{deleteStep};
 ghost use Rattle.store.specs.Storage.{contents, pairsOf, groupsOf};
 ghost use Rattle.replies.specs.Orders.{replyOf, Judges};
 ghost use Rattle.deleting.specs.Deletes.{formTests, standTests};
-ghost use Rattle.deleting.specs.Leaving.{Stretches};
+ghost use Rattle.deleting.specs.Deassigned.{Stretches};
 
 // What a delete is refused with for its form.
 fn form_fault(asker: Itsi, named: Listed, deassign: bool, radios: Listed) -> Reply

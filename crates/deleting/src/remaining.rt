@@ -15,7 +15,7 @@ ghost use Rattle.order.specs.Keys.{groupKeys, radioKeys};
 ghost use Rattle.store.specs.Lists.{Fills, Plain};
 ghost use Rattle.store.specs.Storage.{pairRow, pairsOf, groupOf, groupRow, groupsOf};
 ghost use Rattle.deleting.specs.Deletes.{parting, groupsLeft, pairsLeft};
-ghost use Rattle.deleting.specs.Leaving.{remaining};
+ghost use Rattle.deleting.specs.Deassigned.{remaining};
 
 // The groups that go are taken out, the others close up in their order; their count is returned.
 fn remove_groups(groups: &mut [[u64; GROUP_WORDS]], count: usize, gone: &[u64]) -> usize

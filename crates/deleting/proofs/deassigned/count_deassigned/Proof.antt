@@ -1,14 +1,14 @@
--- `deleting::count_leaving` meets its contract.
+-- `deleting::count_deassigned` meets its contract.
 use mathlib.Core.Path.{_≡_, sym}
 use native.Mathlib.Omega.{arith}
 use lib.ListN.{length}
 use borrow.Author.Tests.{not-true, not-false}
 use Rattle.rules.specs.Named.{maxNumbers}
 use Rattle.order.proofs.KeyLaws.{few-radios}
-use Rattle.deleting.proofs.LeavingLaws.{Spans, spans}
+use Rattle.deleting.proofs.DeassignedLaws.{Spans, spans}
 use borrow.Author.Needs.{needs}
-use Rattle.deleting.proofs.leaving.count_leaving.Statement.{statement}
-use Rattle.deleting.proofs.leaving.count_leaving.Tie as tie
+use Rattle.deleting.proofs.deassigned.count_deassigned.Statement.{statement}
+use Rattle.deleting.proofs.deassigned.count_deassigned.Tie as tie
 
 -- the group's stretch
 stretch : (c : tie.After-stretch-of) → let a = c .before .before .before .args in Spans (a .count) (a .pairs .now) (a .group .0) (c .stretch-of .result)
@@ -45,8 +45,8 @@ returns-3 c =
     let all = c .before .before in
     rw (not-false (all .before .before .args .deassign) (all .before .if1 .left), all .if2 .left) (sym (stretch (c .before) .counts))
 
-pub count-leaving-spec : {M : Type 1} → statement M
-count-leaving-spec =
+pub count-deassigned-spec : {M : Type 1} → statement M
+count-deassigned-spec =
     tie.close
     (tie.spec
     returns

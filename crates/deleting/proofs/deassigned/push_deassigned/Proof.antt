@@ -1,4 +1,4 @@
--- `deleting::push_leaving` meets its contract.
+-- `deleting::push_deassigned` meets its contract.
 use mathlib.Core.Path.{_≡_, refl, sym, ap, _∙_}
 use native.Mathlib.Omega.{arith}
 use Prim.Native.Nat.{ℕ, _-_, _≤_}
@@ -10,11 +10,11 @@ use Rattle.rules.specs.Named.{maxNumbers}
 use Rattle.order.specs.Keys.{radioKeys}
 use Rattle.order.proofs.KeyLaws.{few-radios}
 use Rattle.store.specs.Storage.{pairsOf}
-use Rattle.deleting.specs.Leaving.{among, leavingRows}
-use Rattle.deleting.proofs.LeavingLaws.{among-few, pushed-front, Spans, spans}
+use Rattle.deleting.specs.Deassigned.{among, deassignRows}
+use Rattle.deleting.proofs.DeassignedLaws.{among-few, pushed-front, Spans, spans}
 use borrow.Author.Needs.{needs}
-use Rattle.deleting.proofs.leaving.push_leaving.Statement.{statement}
-use Rattle.deleting.proofs.leaving.push_leaving.Tie as tie
+use Rattle.deleting.proofs.deassigned.push_deassigned.Statement.{statement}
+use Rattle.deleting.proofs.deassigned.push_deassigned.Tie as tie
 
 -- the room for listed radios holds those that are found
 abbrev room : (c : tie.After-found-among) → List ℕ
@@ -39,7 +39,7 @@ stretch c =
 returns : tie.Need-returns
 returns c =
     let a = c .before .args in
-    rw (not-true (a .deassign) (c .if1 .taken)) (refl, paste-zero (a .out .now) (a .at) (leavingRows (a .group .0) []))
+    rw (not-true (a .deassign) (c .if1 .taken)) (refl, paste-zero (a .out .now) (a .at) (deassignRows (a .group .0) []))
 
 slice-aggregate-found-among : tie.Need-slice-aggregate-found-among
 slice-aggregate-found-among c = search needs
@@ -102,11 +102,11 @@ returns-3 c =
     let sent = pushed .before .before .stretch-of .result in
     rw (not-false (a .deassign) (all .before .if1 .left), all .if2 .left) (
       sym (s .counts),
-      pushed .push-stretch .ensures ∙ ap (λ (z : List ℕ). paste (a .out .now) (a .at) (leavingRows (a .group .0) z) (sent .to - sent .from)) (sym (s .radios)),
+      pushed .push-stretch .ensures ∙ ap (λ (z : List ℕ). paste (a .out .now) (a .at) (deassignRows (a .group .0) z) (sent .to - sent .from)) (sym (s .radios)),
     )
 
-pub push-leaving-spec : {M : Type 1} → statement M
-push-leaving-spec =
+pub push-deassigned-spec : {M : Type 1} → statement M
+push-deassigned-spec =
     tie.close
     (tie.spec
     returns

@@ -21,7 +21,7 @@ ghost use mathlib.Core.Path.{_≡_};
 ghost use Rattle.order.specs.Keys.{radioKeys};
 ghost use Rattle.order.specs.Walks.{onto};
 ghost use Rattle.store.specs.Storage.{pairsOf};
-ghost use Rattle.deleting.specs.Leaving.{among, leaving, Stretches, leavingRows, stretchRadios};
+ghost use Rattle.deleting.specs.Deassigned.{among, deassigned, Stretches, deassignRows, stretchRadios};
 
 // The listed radios that a group has; their number is returned.
 fn found_among(
@@ -50,7 +50,7 @@ fn found_among(
 }
 
 // How many radios a delete deassigns in a group.
-pub fn count_leaving(
+pub fn count_deassigned(
     pairs: &[[u64; PAIR_WORDS]],
     count: usize,
     group: GroupKey,
@@ -59,7 +59,7 @@ pub fn count_leaving(
     radios: Radios,
 ) -> usize
     requires { ⌜ Stretches count (now pairs) ⌝ }
-    ensures { λ r. ⌜ r ≡ length (leaving deassign listed (radioKeys radios) (pairsOf count (now (pairs .entry))) (group .0)) ⌝ }
+    ensures { λ r. ⌜ r ≡ length (deassigned deassign listed (radioKeys radios) (pairsOf count (now (pairs .entry))) (group .0)) ⌝ }
 {
     if !deassign {
         return 0;
@@ -82,7 +82,7 @@ fn push_stretch(
     at: usize,
 )
     requires { ⌜ (from ≤ to) × (to ≤ length (now pairs)) × (at + (to - from) ≤ length (now out)) ⌝ }
-    ensures { λ _. ⌜ now (out .exit) ≡ paste (now (out .entry)) at (leavingRows (group .0) (stretchRadios from to (now (pairs .entry)))) (to - from) ⌝ }
+    ensures { λ _. ⌜ now (out .exit) ≡ paste (now (out .entry)) at (deassignRows (group .0) (stretchRadios from to (now (pairs .entry)))) (to - from) ⌝ }
 {
     let count = to - from;
     let mut i: usize = 0;
@@ -93,8 +93,8 @@ fn push_stretch(
     }
 }
 
-// Deassign orders to the radios that leave a group, from place `at` on; how many they are.
-pub fn push_leaving(
+// Deassign orders to the radios that a delete deassigns in a group, from place `at` on; how many they are.
+pub fn push_deassigned(
     pairs: &[[u64; PAIR_WORDS]],
     count: usize,
     group: GroupKey,
@@ -105,10 +105,10 @@ pub fn push_leaving(
     at: usize,
 ) -> usize
     requires { ⌜ Stretches count (now pairs)
-        × (at + length (leaving deassign listed (radioKeys radios) (pairsOf count (now pairs)) (group .0)) ≤ length (now out)) ⌝ }
-    ensures { λ r. ⌜ (r ≡ length (leaving deassign listed (radioKeys radios) (pairsOf count (now (pairs .entry))) (group .0)))
+        × (at + length (deassigned deassign listed (radioKeys radios) (pairsOf count (now pairs)) (group .0)) ≤ length (now out)) ⌝ }
+    ensures { λ r. ⌜ (r ≡ length (deassigned deassign listed (radioKeys radios) (pairsOf count (now (pairs .entry))) (group .0)))
         × (now (out .exit) ≡ paste (now (out .entry)) at
-        (leavingRows (group .0) (leaving deassign listed (radioKeys radios) (pairsOf count (now (pairs .entry))) (group .0))) r) ⌝ }
+        (deassignRows (group .0) (deassigned deassign listed (radioKeys radios) (pairsOf count (now (pairs .entry))) (group .0))) r) ⌝ }
 {
     if !deassign {
         return 0;

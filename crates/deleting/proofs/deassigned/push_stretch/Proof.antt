@@ -7,15 +7,15 @@ use lib.Seq.{paste, paste-zero}
 use Rattle.rules.specs.Outgoing.{deassign}
 use Rattle.replies.specs.Sending.{orderRow}
 use Rattle.sending.proofs.Pushing.{push-turn}
-use Rattle.deleting.specs.Leaving.{leavingRows, stretchRadios}
-use Rattle.deleting.proofs.LeavingLaws.{radios-count, radio-in}
+use Rattle.deleting.specs.Deassigned.{deassignRows, stretchRadios}
+use Rattle.deleting.proofs.DeassignedLaws.{radios-count, radio-in}
 use borrow.Author.Needs.{needs}
-use Rattle.deleting.proofs.leaving.push_stretch.Statement.{statement}
-use Rattle.deleting.proofs.leaving.push_stretch.Tie as tie
+use Rattle.deleting.proofs.deassigned.push_stretch.Statement.{statement}
+use Rattle.deleting.proofs.deassigned.push_stretch.Tie as tie
 
 abbrev Inv-loop : tie.InvT-loop
 Inv-loop pairs from to group out₀ at count i₀ out i =
-    (i ≤ to - from) × (length out ≡ length out₀) × (out ≡ paste out₀ at (leavingRows (group .0) (stretchRadios from to pairs)) i)
+    (i ≤ to - from) × (length out ≡ length out₀) × (out ≡ paste out₀ at (deassignRows (group .0) (stretchRadios from to pairs)) i)
 
 abbrev μ-loop : tie.MeasureT-loop
 μ-loop pairs from to group out₀ at count i₀ out i = to - from - i
@@ -26,7 +26,7 @@ sub-count c = search needs
 loop-holds : tie.Need-loop-holds Inv-loop μ-loop
 loop-holds c =
     let a = c .args in
-    (search needs, refl, paste-zero (a .out .now) (a .at) (leavingRows (a .group .0) (stretchRadios (a .from) (a .to) (a .pairs .now))))
+    (search needs, refl, paste-zero (a .out .now) (a .at) (deassignRows (a .group .0) (stretchRadios (a .from) (a .to) (a .pairs .now))))
 
 add-row : tie.Need-add-row Inv-loop μ-loop
 add-row c = search needs

@@ -28,7 +28,7 @@ use Rattle.store.proofs.Stretches.{Stretched, stretched}
 use Rattle.replies.specs.Sending.{orderRow}
 use Rattle.sending.specs.Pushed.{pushed}
 use Rattle.sending.proofs.Pushing.{pushed-fits, length-rows, join-turn, join-front, send-turn}
-use Rattle.deleting.specs.Leaving.{among, leaving, leavingOrders, Stretches, leavingRows, stretchRadios}
+use Rattle.deleting.specs.Deassigned.{among, deassigned, deassignOrders, Stretches, deassignRows, stretchRadios}
 
 -- ---- listed radios ----
 
@@ -54,12 +54,12 @@ among-few pairs g radios = length-keep (λ r. present (find samePair pairs (g, r
 
 -- the orders to radios that stand at the front of a room are laid, where they fit
 pub pushed-front : (l room room′ : List ℕ) (g n at : ℕ) (out out′ : Rows) → n ≡ length l → room′ ≡ onto l room → at + n ≤ length out
-    → out′ ≡ pushed out at (leavingRows g (take n room′)) → out′ ≡ paste out at (leavingRows g l) n
+    → out′ ≡ pushed out at (deassignRows g (take n room′)) → out′ ≡ paste out at (deassignRows g l) n
 pushed-front l room room′ g n at out out′ e d h q =
     let f : take n room′ ≡ l = rw d (take-at l (drop (length l) room) n (sym e)) in
-    let k : length (leavingRows g l) ≡ n = length-rows deassign g l ∙ sym e in
-    q ∙ ap (λ (z : List ℕ). pushed out at (leavingRows g z)) f ∙ pushed-fits out at (leavingRows g l) (omega (arith, k, h))
-    ∙ ap (paste out at (leavingRows g l)) k
+    let k : length (deassignRows g l) ≡ n = length-rows deassign g l ∙ sym e in
+    q ∙ ap (λ (z : List ℕ). pushed out at (deassignRows g z)) f ∙ pushed-fits out at (deassignRows g l) (omega (arith, k, h))
+    ∙ ap (paste out at (deassignRows g l)) k
 
 -- ---- the radios of a group's stretch ----
 
@@ -103,34 +103,34 @@ module _ (count : ℕ) (rows : Rows) (w : Stretches count rows) (g : ℕ) where
       }
 
   -- a group has no more radios than there are pairs
-  pub leaving-few : (leave listed : Bool) (radios : List ℕ) → length radios ≤ maxNumbers
-      → length (leaving leave listed radios (pairsOf count rows) g) ≤ maxPairs
-  leaving-few false listed radios h = omega arith
-  leaving-few true true radios h = omega (arith, h, among-few (pairsOf count rows) g radios)
-  leaving-few true false radios h = let s = spans (stretchOf (pairsOf count rows) g) refl in omega (arith, s .counts, s .inside, w .few)
+  pub deassigned-few : (leave listed : Bool) (radios : List ℕ) → length radios ≤ maxNumbers
+      → length (deassigned leave listed radios (pairsOf count rows) g) ≤ maxPairs
+  deassigned-few false listed radios h = omega arith
+  deassigned-few true true radios h = omega (arith, h, among-few (pairsOf count rows) g radios)
+  deassigned-few true false radios h = let s = spans (stretchOf (pairsOf count rows) g) refl in omega (arith, s .counts, s .inside, w .few)
 
 -- ---- orders, group by group ----
 
 -- the group at place i of those named, and how many leave it
 module _ (leave listed : Bool) (radios : List ℕ) (pairs : List (Pair × Mark)) (named : List ℕ) (i g n at : ℕ) (h : i < length named)
-    (e : g ≡ getD named i 0) (m : n ≡ length (leaving leave listed radios pairs g))
-    (a : at ≡ length (leavingOrders leave listed radios pairs (take i named))) where
+    (e : g ≡ getD named i 0) (m : n ≡ length (deassigned leave listed radios pairs g))
+    (a : at ≡ length (deassignOrders leave listed radios pairs (take i named))) where
   abbrev sent : ℕ → List Outgoing
-  sent x = orders deassign x (leaving leave listed radios pairs x)
+  sent x = orders deassign x (deassigned leave listed radios pairs x)
 
   count-at : n ≡ length (sent (getD named i 0))
-  count-at = m ∙ ap (λ (x : ℕ). length (leaving leave listed radios pairs x)) e ∙ sym (length-map (leaving leave listed radios pairs (getD named i 0)) _)
+  count-at = m ∙ ap (λ (x : ℕ). length (deassigned leave listed radios pairs x)) e ∙ sym (length-map (deassigned leave listed radios pairs (getD named i 0)) _)
 
-  pub counted : at + n ≡ length (leavingOrders leave listed radios pairs (take (i + 1) named))
+  pub counted : at + n ≡ length (deassignOrders leave listed radios pairs (take (i + 1) named))
   counted =
-      rw (join-turn sent named i h, length-append (leavingOrders leave listed radios pairs (take i named)) (sent (getD named i 0))) (omega (arith, a, count-at))
+      rw (join-turn sent named i h, length-append (deassignOrders leave listed radios pairs (take i named)) (sent (getD named i 0))) (omega (arith, a, count-at))
 
-  pub within : at + n ≤ length (leavingOrders leave listed radios pairs named)
+  pub within : at + n ≤ length (deassignOrders leave listed radios pairs named)
   within = omega (arith, counted, join-front sent named (i + 1))
 
   -- a turn that lays the group's orders
-  pub sent-more : (out out′ out₀ : Rows) → out ≡ onto (map orderRow (leavingOrders leave listed radios pairs (take i named))) out₀
-      → out′ ≡ paste out at (leavingRows g (leaving leave listed radios pairs g)) n
-      → out′ ≡ onto (map orderRow (leavingOrders leave listed radios pairs (take (i + 1) named))) out₀
+  pub sent-more : (out out′ out₀ : Rows) → out ≡ onto (map orderRow (deassignOrders leave listed radios pairs (take i named))) out₀
+      → out′ ≡ paste out at (deassignRows g (deassigned leave listed radios pairs g)) n
+      → out′ ≡ onto (map orderRow (deassignOrders leave listed radios pairs (take (i + 1) named))) out₀
   sent-more out out′ out₀ o q =
       send-turn sent named out out′ out₀ i at n h a count-at o (q ∙ ap (λ (x : ℕ). paste out at (map orderRow (sent x)) n) e) .1

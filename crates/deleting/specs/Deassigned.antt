@@ -1,4 +1,4 @@
--- Who leaves by a delete, and what goes out to them, in plain lists.
+-- The radios that a delete deassigns, and what goes out to them, in plain lists.
 use Prim.Native.Nat.{ℕ, _≤_}
 use mathlib.Core.Path.{_≡_}
 use mathlib.Core.Bool.{Bool, true, cond, not}
@@ -22,13 +22,13 @@ abbrev pub among : List (Pair × Mark) → ℕ → List ℕ → List ℕ
 among pairs g radios = keep (λ r. present (find samePair pairs (g, r))) radios
 
 -- "listed radios that are members, or all members if none are listed": these are the radios of the group's stretch
-abbrev pub leaving : Bool → Bool → List ℕ → List (Pair × Mark) → ℕ → List ℕ
-leaving deassign listed radios pairs g = cond deassign (cond listed (among pairs g radios) (radiosOf g pairs)) []
+abbrev pub deassigned : Bool → Bool → List ℕ → List (Pair × Mark) → ℕ → List ℕ
+deassigned deassign listed radios pairs g = cond deassign (cond listed (among pairs g radios) (radiosOf g pairs)) []
 
--- deassign orders to those who leave, groups in list order
-abbrev pub leavingOrders : Bool → Bool → List ℕ → List (Pair × Mark) → List ℕ → List outgoing.Outgoing
-leavingOrders deassign listed radios pairs groups =
-    join (λ g. outgoing.orders outgoing.deassign g (leaving deassign listed radios pairs g)) groups
+-- deassign orders to them, groups in list order
+abbrev pub deassignOrders : Bool → Bool → List ℕ → List (Pair × Mark) → List ℕ → List outgoing.Outgoing
+deassignOrders deassign listed radios pairs groups =
+    join (λ g. outgoing.orders outgoing.deassign g (deassigned deassign listed radios pairs g)) groups
 
 -- the groups that stay where these go
 abbrev pub remaining : List ℕ → List (ℕ × Group) → List (ℕ × Group)
@@ -44,8 +44,8 @@ pub record Stretches (count : ℕ) (rows : Rows) : Type 0 where
   pub narrow : all (λ (e : Pair × Mark). not (wideKey (e .0 .1))) (pairsOf count rows) ≡ true
 
 -- the orders to these radios of a group, as rows
-abbrev pub leavingRows : ℕ → List ℕ → Rows
-leavingRows g radios = map orderRow (outgoing.orders outgoing.deassign g radios)
+abbrev pub deassignRows : ℕ → List ℕ → Rows
+deassignRows g radios = map orderRow (outgoing.orders outgoing.deassign g radios)
 
 -- the radios of a stretch
 abbrev pub stretchRadios : ℕ → ℕ → Rows → List ℕ
