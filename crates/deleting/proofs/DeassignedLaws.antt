@@ -123,7 +123,8 @@ module _ (leave listed : Bool) (radios : List ℕ) (pairs : List (Pair × Mark))
 
   pub counted : at + n ≡ length (deassignOrders leave listed radios pairs (take (i + 1) named))
   counted =
-      rw (join-turn sent named i h, length-append (deassignOrders leave listed radios pairs (take i named)) (sent (getD named i 0))) (omega (arith, a, count-at))
+      rw (join-turn sent named i h, length-append (deassignOrders leave listed radios pairs (take i named)) (sent (getD named i 0)))
+      (omega (arith, a, count-at))
 
   pub within : at + n ≤ length (deassignOrders leave listed radios pairs named)
   within = omega (arith, counted, join-front sent named (i + 1))

@@ -17,7 +17,7 @@ use Rattle.rules.specs.Effect.{parted, effect}
 use Rattle.rules.specs.Change.{after}
 use Rattle.rules.specs.Refusals.{accepted}
 use Rattle.rules.specs.History.{History, _then_, world, stands, mark, refusalIn}
-use Rattle.rules.specs.Leaving.{Acknowledged, names, LeavesAll, Answers, LetsGo, unacknowledged, letGo, declined}
+use Rattle.rules.specs.Leaving.{Acknowledged, names, LeavesAll, OpenAnswer, LetsGo, unacknowledged, letGo, declined}
 use Rattle.rules.specs.declared.AnswerKind.{AnswerKind}
 use Rattle.rules.specs.declared.AnswerKind.the-variants.{Assignment, Deassignment}
 use Rattle.rules.proofs.Tests.{split, clash, and-in, and-l, and-r, or-l, or-r}
@@ -84,7 +84,7 @@ goes b left (some m) p q = rw (p, q) refl
 
 module _ (h : History) (g r : ℕ) where
   -- an accepted answer for the pair whose result leaves nothing
-  answer-goes : (what : AnswerKind) (a : Answer) → Answers h g r what a → answered what (a .result) ≡ none → refusalIn h (answer a) ≡ none
+  answer-goes : (what : AnswerKind) (a : Answer) → OpenAnswer h g r what a → answered what (a .result) ≡ none → refusalIn h (answer a) ≡ none
       → mark (h then answer a) g r ≡ none
   answer-goes what a k n e =
       let here = and-in (eq-eqb g (key (a .group)) (sym (k .group))) (eq-eqb r (key (a .radio)) (sym (k .radio))) in
@@ -110,12 +110,12 @@ module _ (h : History) (g r : ℕ) (there : present (mark h g r) ≡ true) where
     in-range = or-r (wideNumber (a .group)) (isZero || ltb 4 (a .result))
         (or-r (wideNumber (a .radio)) (wideNumber (a .group) || (isZero || ltb 4 (a .result))) (tests-pass (testsIn h (answer a)) e 0))
 
-    answers : (kind : AnswerKind) → a .kind ≡ kind → Answers h g r kind a
+    answers : (kind : AnswerKind) → a .kind ≡ kind → OpenAnswer h g r kind a
     answers kind q =
         let group = eqb-true g (key (a .group)) (and-l (eqb g (key (a .group))) (eqb r (key (a .radio))) k) in
         let radio = eqb-true r (key (a .radio)) (and-r (eqb g (key (a .group))) (eqb r (key (a .radio))) k) in
-        let awaited = not-false (open? (a .kind) (mark h (key (a .group)) (key (a .radio)))) (tests-pass (testsIn h (answer a)) e 2) in
-        record { group = sym group; radio = sym radio; kind = q; awaited = (λ i. open? (sym q i) (mark h (group i) (radio i))) ∙ awaited }
+        let isOpen = not-false (open? (a .kind) (mark h (key (a .group)) (key (a .radio)))) (tests-pass (testsIn h (answer a)) e 2) in
+        record { group = sym group; radio = sym radio; kind = q; isOpen = (λ i. open? (sym q i) (mark h (group i) (radio i))) ∙ isOpen }
 
     answer-left : (kind : AnswerKind) → a .kind ≡ kind → answered kind (a .result) ≡ none → LetsGo h g r (answer a)
     answer-left Assignment q n =

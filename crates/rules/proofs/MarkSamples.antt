@@ -9,15 +9,15 @@ use Rattle.rules.specs.Written.{goodMark}
 abbrev states : List ℕ
 states = 0 ∷ 1 ∷ 2 ∷ 3 ∷ 4 ∷ 5 ∷ 6 ∷ 7 ∷ []
 
--- 1 and 4 alone; all but 7; none
+-- 1 and 4 alone; all but 7; no state
 abbrev oneAndFour : List Bool
 oneAndFour = false ∷ true ∷ false ∷ false ∷ true ∷ false ∷ false ∷ false ∷ []
 
 abbrev allButSeven : List Bool
 allButSeven = true ∷ true ∷ true ∷ true ∷ true ∷ true ∷ true ∷ false ∷ []
 
-abbrev none : List Bool
-none = false ∷ false ∷ false ∷ false ∷ false ∷ false ∷ false ∷ false ∷ []
+abbrev noState : List Bool
+noState = false ∷ false ∷ false ∷ false ∷ false ∷ false ∷ false ∷ false ∷ []
 
 -- the states in which a mark with so many ticks is good
 abbrev goodWith : ℕ → List Bool
@@ -35,5 +35,5 @@ with-one-tick = refl
 pub with-29-ticks : goodWith 29 ≡ oneAndFour
 with-29-ticks = refl
 
-pub with-30-ticks : goodWith 30 ≡ none
+pub with-30-ticks : goodWith 30 ≡ noState
 with-30-ticks = refl

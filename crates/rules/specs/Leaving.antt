@@ -29,15 +29,15 @@ pub record LeavesAll (h : History) (o : Delete) (room : ℕ) : Type 0 where
       → mark (h then delete o room) g r ≡ some (fresh leaving)
 
 -- an answer of this kind for the pair, which is open for it
-pub record Answers (h : History) (g r : ℕ) (what : AnswerKind) (a : Answer) : Type 0 where
+pub record OpenAnswer (h : History) (g r : ℕ) (what : AnswerKind) (a : Answer) : Type 0 where
   pub group : key (a .group) ≡ g
   pub radio : key (a .radio) ≡ r
   pub kind : a .kind ≡ what
-  pub awaited : open? what (mark h g r) ≡ true
+  pub isOpen : open? what (mark h g r) ≡ true
 
 -- the steps by which a pair can leave a group that stands: a deassign without acknowledgement, result 1 for its deassignment, or one of
 -- results 2 to 4 for its assignment
 pub data LetsGo (h : History) (g r : ℕ) : Step → Type 0 where
   unacknowledged : (o : Delete) (room : ℕ) → o .delete ≡ false → o .acknowledgement ≡ false → names o g r ≡ true → LetsGo h g r (delete o room)
-  letGo : (a : Answer) → Answers h g r Deassignment a → a .result ≡ 1 → LetsGo h g r (answer a)
-  declined : (a : Answer) → Answers h g r Assignment a → 1 < a .result → a .result ≤ 4 → LetsGo h g r (answer a)
+  letGo : (a : Answer) → OpenAnswer h g r Deassignment a → a .result ≡ 1 → LetsGo h g r (answer a)
+  declined : (a : Answer) → OpenAnswer h g r Assignment a → 1 < a .result → a .result ≤ 4 → LetsGo h g r (answer a)
