@@ -1,3 +1,5 @@
+#![tactic(auto)]
+
 // The orders that only reply: an empty ledger, a radio's answer, a tick.
 ghost use Rattle.std.specs.Prelude.{◌≤◌, ◌<◌, length, get_or, [], ◌≡◌};
 ghost use Rattle.rules.specs.Mark.{open?, answered};

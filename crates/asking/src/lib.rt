@@ -1,3 +1,5 @@
+#![tactic(auto)]
+
 // The questions: a group's radios, and a group's owners and parameters, for one of its owners.
 mod telling;
 

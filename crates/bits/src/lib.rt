@@ -1,3 +1,5 @@
+#![tactic(auto)]
+
 // Bit fields of byte slices, highest bit first.
 // A field lies in one to five whole bytes. These are taken as one number, to read the field and to lay it.
 ghost use Rattle.std.specs.Prelude.{◌≡◌, ◌+◌, ◌*◌, ◌%◌, ◌^◌, ◌≤◌, ◌<◌, length};
@@ -5,7 +7,7 @@ ghost use Rattle.bits.specs.Field.{field_at, first_two, put_at};
 ghost use Rattle.bits.specs.Window.{value_at, bytes_at, joined_bits, laid};
 
 // What taking a field finds: its number, or that the bits end inside it (or it is wider than 32 bits).
-#[derive(Drop)]
+#[derive(Clone, Copy)]
 pub enum Taken {
     Value(u32),
     Cut,
@@ -93,7 +95,7 @@ fn field_at(frame: &[u8], bits: usize, at: usize, width: usize) -> Taken
 
 // A frame, its bit count and the place of the next field, kept together.
 // Its functions are thin: the work is `field_at`'s, on the slice and the numbers.
-#[derive(Drop)]
+#[derive(Clone, Copy)]
 pub struct Reader<'a> {
     pub frame: &'a [u8],
     pub bits: usize,
@@ -133,7 +135,7 @@ pub fn field_from(frame: &[u8], bits: usize, at: usize, width: usize) -> Taken
 }
 
 // Two fields, one behind the other.
-#[derive(Drop)]
+#[derive(Clone, Copy)]
 pub struct Two {
     pub first: Taken,
     pub second: Taken,

@@ -1,3 +1,5 @@
+#![tactic(auto)]
+
 // A define: the named groups are made or changed, and the listed radios assigned to them.
 mod carrying;
 mod grouping;
@@ -25,7 +27,7 @@ use replies::{Reply, Sent};
 use rows::{GROUP_WORDS, ORDER_WORDS, PAIR_WORDS};
 
 // How far rows are put, from the last down: so many stand as they were before the last that was put, and so many new ones come among them.
-#[derive(Drop)]
+#[derive(Clone, Copy)]
 struct Step {
     left: usize,
     by: usize,

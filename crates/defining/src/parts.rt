@@ -11,7 +11,7 @@ use order::record::lists_of;
 use order::{DefineLists, Groups, Itsi, Owners, Radios};
 
 // What the lists of a define are refused for: an SNA; a range whose ends are bad; too many numbers.
-#[derive(Drop)]
+#[derive(Clone, Copy)]
 pub struct Faults {
     pub untaken: bool,
     pub crossed: bool,
@@ -19,7 +19,7 @@ pub struct Faults {
 }
 
 // The groups and radios that a define names, the owners who come, and what its lists are refused for.
-#[derive(Drop)]
+#[derive(Clone, Copy)]
 pub struct Parts {
     pub named: Groups,
     pub radios: Radios,

@@ -1,3 +1,5 @@
+#![tactic(auto)]
+
 // A delete: the named groups, or radios of them, go.
 mod deassigned;
 mod outgoing;

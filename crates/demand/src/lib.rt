@@ -1,1 +1,3 @@
+#![tactic(auto)]
+
 // The ledger over any run of calls: definitions and proofs alone.

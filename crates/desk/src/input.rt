@@ -6,7 +6,7 @@ use libc::{STDERR_FILENO, STDIN_FILENO};
 
 // How many bytes of a line are held, and which of the bytes read are still to be taken, from `at` on and before `end`;
 // whether the line is whole, and whether more may come.
-#[derive(Drop)]
+#[derive(Clone, Copy)]
 pub struct Input {
     pub held: usize,
     pub at: usize,

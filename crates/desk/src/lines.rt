@@ -12,14 +12,14 @@ use words::{choice, digits, group, identity, mark, number, room, series, series_
 const FRAME_BYTES: usize = 213;
 
 // What a DEFINE's heading says: the bit count; or the text is no DEFINE.
-#[derive(Drop)]
+#[derive(Clone, Copy)]
 enum Heading {
     Define(usize),
     Other,
 }
 
 // What a D holds: nothing, as its line is bad; a frame that is refused at a bit; or a define.
-#[derive(Drop)]
+#[derive(Clone, Copy)]
 pub enum Content {
     Bad,
     Refused(Refusal, usize),
@@ -27,7 +27,7 @@ pub enum Content {
 }
 
 // What a D says: asker, room and record.
-#[derive(Drop)]
+#[derive(Clone, Copy)]
 pub struct Definition {
     pub content: Content,
     pub asker: Itsi,
@@ -36,7 +36,7 @@ pub struct Definition {
 }
 
 // What an X says: asker, room, groups, delete, deassign, radios, acknowledgement asked for; and the place behind them.
-#[derive(Drop)]
+#[derive(Clone, Copy)]
 pub struct Deletion {
     pub asker: Itsi,
     pub size: u64,
@@ -49,7 +49,7 @@ pub struct Deletion {
 }
 
 // What an H says: asker, group, owners; and the place behind them.
-#[derive(Drop)]
+#[derive(Clone, Copy)]
 pub struct Handing {
     pub asker: Itsi,
     pub group: Identity,
@@ -58,7 +58,7 @@ pub struct Handing {
 }
 
 // What an L or an S asks: asker and group; and the place behind them.
-#[derive(Drop)]
+#[derive(Clone, Copy)]
 pub struct Question {
     pub asker: Itsi,
     pub group: GroupAsked,

@@ -1,3 +1,5 @@
+#![tactic(auto)]
+
 // The desk of a yard: one ledger order a line on standard input, one reply a line.
 mod input;
 mod lines;

@@ -4,7 +4,7 @@ use refusal::Refusal;
 use words::{mark, word};
 
 // The word that a line names, and its new value: part is H, G or P, for head, groups and pairs; 0 where the line is bad.
-#[derive(Drop)]
+#[derive(Clone, Copy)]
 struct Setting {
     part: u8,
     row: usize,

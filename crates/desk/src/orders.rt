@@ -17,7 +17,7 @@ use words::{kind, number, room, word};
 pub const REPLY: usize = 61442;
 
 // What an order came to: a reply, orders that go out, or a frame refused at a bit.
-#[derive(Drop)]
+#[derive(Clone, Copy)]
 enum Outcome {
     Replied(Reply),
     Sends(Sent),

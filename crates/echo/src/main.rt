@@ -1,3 +1,5 @@
+#![tactic(auto)]
+
 // Echoes house text: for each line of standard input A and the line made anew, or R, the refusal's number and its bit.
 ghost use Rattle.std.specs.Prelude.{◌≡◌, false, ◌+◌, ◌≤◌, min, length, take};
 ghost use Rattle.std.proofs.Math.Seq.{slice};
@@ -17,21 +19,21 @@ const REPLY: usize = 434;
 const HELD: usize = 433;
 
 // How far the output buffer is filled, with room for one more reply.
-#[derive(Drop)]
+#[derive(Clone, Copy)]
 enum Room {
     Filled(usize),
     Failed,
 }
 
 // Where the rest of the text starts, after the last newline.
-#[derive(Drop)]
+#[derive(Clone, Copy)]
 enum Progress {
     Rest(usize),
     Failed,
 }
 
 // How many bytes are held at the front of the input buffer; or the input ended, or a call failed.
-#[derive(Drop)]
+#[derive(Clone, Copy)]
 enum Input {
     Held(usize),
     Ended,

@@ -1,3 +1,5 @@
+#![tactic(auto)]
+
 // The frames of SS-DGNA, ten kinds of them, read from bits and written as bits.
 ghost use Rattle.std.specs.Prelude.{◌≡◌, length};
 ghost use Rattle.layout.specs.Length.{measured_of};

@@ -1,3 +1,5 @@
+#![tactic(auto)]
+
 // A handover: the owners of a group become the asker and those listed.
 mod refusing;
 

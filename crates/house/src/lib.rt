@@ -1,3 +1,5 @@
+#![tactic(auto)]
+
 // House text: one frame a line, in upper-case hexadecimal digits.
 ghost use Rattle.std.specs.Prelude.{◌≡◌, true, [], ◌∷◌, ◌+◌, ◌*◌, ◌≤◌, ◌<◌, min, length, take};
 ghost use Rattle.std.proofs.lemmas.List.Edits.{sets};
@@ -25,7 +27,7 @@ const FRAME_BYTES: usize = 213;
 const REPLY: usize = 433;
 
 // What a line is: a frame of a kind, with its bit count, or nothing that is known.
-#[derive(Drop)]
+#[derive(Clone, Copy)]
 pub enum Line {
     Frame(Kind, usize),
     Bad,

@@ -1,3 +1,5 @@
+#![tactic(auto)]
+
 // What the frames of SS-DGNA are laid out by: the words of the tables, a frame's record, and what the reader and the writer answer.
 // There is no code here: the definitions are in specs/, and what is proved of them alone in proofs/.
 use refusal::Refusal;
@@ -5,7 +7,7 @@ use refusal::Refusal;
 // The places of a record of any kind: as many as table 19 has rows.
 pub const PLACES: usize = 166;
 
-#[derive(Drop)]
+#[derive(Clone, Copy)]
 pub enum Kind {
     Define,
     DefineAck,
@@ -21,7 +23,7 @@ pub enum Kind {
 
 // When an element is there: always, where a place holds a value, or by a chain of conditions, outermost first.
 // In a chain two places hold 1, and then a place holds a value; a chain of two has its first place twice.
-#[derive(Drop)]
+#[derive(Clone, Copy)]
 pub enum When {
     Always,
     Is(u8, u8),
@@ -29,14 +31,14 @@ pub enum When {
 }
 
 // What a list is of.
-#[derive(Drop)]
+#[derive(Clone, Copy)]
 pub enum Items {
     Numbers,
     Letters,
 }
 
 // What an element is made of.
-#[derive(Drop)]
+#[derive(Clone, Copy)]
 pub enum Shape {
     // A plain number of so many bits.
     Number(u8),
@@ -54,45 +56,45 @@ pub enum Shape {
 }
 
 // One line of a table: when it is there, and what it is made of.
-#[derive(Drop)]
+#[derive(Clone, Copy)]
 pub struct Element(pub When, pub Shape);
 
 // A frame's values, one place a row of its table, after SS-Type and action type; 0 where the row is not there.
-#[derive(Drop)]
+#[derive(Clone, Copy)]
 pub struct Record {
     pub place: [u32; PLACES],
 }
 
 // A refusal comes with the bit at which the refused element begins.
-#[derive(Drop)]
+#[derive(Clone, Copy)]
 pub enum Verdict {
     Frame,
     Refused(Refusal, usize),
 }
 
 // What the reader makes of bits. On a refusal every place is 0.
-#[derive(Drop)]
+#[derive(Clone, Copy)]
 pub struct Reading {
     pub verdict: Verdict,
     pub values: Record,
 }
 
 // Whether a record has a code.
-#[derive(Drop)]
+#[derive(Clone, Copy)]
 pub enum Judged {
     Writable,
     Refused(Refusal),
 }
 
 // How many bits a frame has, written or to be written.
-#[derive(Drop)]
+#[derive(Clone, Copy)]
 pub enum Written {
     Bits(usize),
     Refused(Refusal),
 }
 
 // The places of a DEFINE record (table 19). `_given` is the place of an optional element's P-bit.
-#[derive(Drop)]
+#[derive(Clone, Copy)]
 pub struct DefinePlaces {
     pub call_related: usize,
     pub call_identifier: usize,
@@ -124,7 +126,7 @@ pub struct DefinePlaces {
 }
 
 // Those of a DEFINE-ACK record (table 20).
-#[derive(Drop)]
+#[derive(Clone, Copy)]
 pub struct DefineAckPlaces {
     pub call_related: usize,
     pub call_identifier: usize,
@@ -134,7 +136,7 @@ pub struct DefineAckPlaces {
 }
 
 // Those of a CANCEL record (table 33).
-#[derive(Drop)]
+#[derive(Clone, Copy)]
 pub struct CancelPlaces {
     pub call_related: usize,
     pub call_identifier: usize,
@@ -143,7 +145,7 @@ pub struct CancelPlaces {
 }
 
 // Those of a CANCEL-ACK record (table 34).
-#[derive(Drop)]
+#[derive(Clone, Copy)]
 pub struct CancelAckPlaces {
     pub call_related: usize,
     pub call_identifier: usize,
@@ -152,7 +154,7 @@ pub struct CancelAckPlaces {
 }
 
 // Those of an ASSIGN record (table 23).
-#[derive(Drop)]
+#[derive(Clone, Copy)]
 pub struct AssignPlaces {
     pub groups: usize,
     pub o_bit: usize,
@@ -175,7 +177,7 @@ pub struct AssignPlaces {
 }
 
 // Those of an ASSIGNING-ACK record (table 24).
-#[derive(Drop)]
+#[derive(Clone, Copy)]
 pub struct AssigningAckPlaces {
     pub groups: usize,
     pub result: usize,
@@ -185,7 +187,7 @@ pub struct AssigningAckPlaces {
 }
 
 // Those of a DEASSIGN record (table 25).
-#[derive(Drop)]
+#[derive(Clone, Copy)]
 pub struct DeassignPlaces {
     pub groups: usize,
     pub o_bit: usize,
@@ -194,14 +196,14 @@ pub struct DeassignPlaces {
 }
 
 // Those of a DEASSIGNING-ACK record (table 26).
-#[derive(Drop)]
+#[derive(Clone, Copy)]
 pub struct DeassigningAckPlaces {
     pub groups: usize,
     pub result: usize,
 }
 
 // Those of a DELETE record (table 21).
-#[derive(Drop)]
+#[derive(Clone, Copy)]
 pub struct DeletePlaces {
     pub groups: usize,
     pub deleted: usize,
@@ -213,7 +215,7 @@ pub struct DeletePlaces {
 }
 
 // Those of a DELETE-ACK record (table 22).
-#[derive(Drop)]
+#[derive(Clone, Copy)]
 pub struct DeleteAckPlaces {
     pub groups: usize,
     pub result: usize,
@@ -221,7 +223,7 @@ pub struct DeleteAckPlaces {
 }
 
 // The places of every kind's record.
-#[derive(Drop)]
+#[derive(Clone, Copy)]
 pub struct KindPlaces {
     pub define: DefinePlaces,
     pub define_ack: DefineAckPlaces,

@@ -1,3 +1,5 @@
+#![tactic(auto)]
+
 // The worked samples of docs/LENGTHS.md: records of each kind, and what is told of the length of each.
 mod held;
 mod orders;

@@ -1,3 +1,5 @@
+#![tactic(auto)]
+
 // A group's row as an order leaves it, and its owners.
 pub mod owners;
 

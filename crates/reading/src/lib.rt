@@ -1,3 +1,5 @@
+#![tactic(auto)]
+
 // Reading a frame: SS-Type and action type, then the elements of its kind's table.
 mod elements;
 mod items;
@@ -14,7 +16,7 @@ use refusal::Refusal;
 use table::lines::{ACTION_TYPE_BITS, HEAD_BITS, SS_TYPE, SS_TYPE_BITS, action_type};
 
 // Where reading goes on: at the next bit, or nowhere, with the bit at which the refused element begins.
-#[derive(Drop)]
+#[derive(Clone, Copy)]
 pub enum Step {
     Next(usize),
     Refused(Refusal, usize),

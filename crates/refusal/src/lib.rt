@@ -1,8 +1,10 @@
+#![tactic(auto)]
+
 // The refusals, one named case for each number that a caller or a printed reply may show.
 ghost use Rattle.std.specs.Prelude.{◌≡◌};
 ghost use Rattle.refusal.specs.Number.{number_of};
 
-#[derive(Drop)]
+#[derive(Clone, Copy)]
 pub enum Refusal {
     // The bits end inside an element, or the bit count exceeds the lent bits.
     EndsInside,

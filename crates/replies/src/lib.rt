@@ -1,3 +1,5 @@
+#![tactic(auto)]
+
 // What the ledger's orders and questions are answered with.
 
 use order::Itsi;
@@ -5,28 +7,28 @@ use refusal::Refusal;
 use rows::{MAX_LETTERS, MAX_OWNERS};
 
 // What an order is answered with.
-#[derive(Drop)]
+#[derive(Clone, Copy)]
 pub enum Reply {
     Done,
     Refused(Refusal),
 }
 
 // What an order that sends is answered with: how many orders stand in the room.
-#[derive(Drop)]
+#[derive(Clone, Copy)]
 pub enum Sent {
     Orders(usize),
     Refused(Refusal),
 }
 
 // What a list is answered with: how many radios stand in the room.
-#[derive(Drop)]
+#[derive(Clone, Copy)]
 pub enum Members {
     Radios(usize),
     Refused(Refusal),
 }
 
 // What a show is answered with: the owners, rising, and the parameters, each value one up and 0 where absent.
-#[derive(Drop)]
+#[derive(Clone, Copy)]
 pub struct Shown {
     pub reply: Reply,
     pub count: usize,

@@ -1,3 +1,5 @@
+#![tactic(auto)]
+
 // The layout of the lent storage and rooms: how many rows there are, how many words a row has, and which word says what.
 // Definitions have the same names, in specs/Layout.antt.
 

@@ -1,7 +1,9 @@
+#![tactic(auto)]
+
 // The rules of the group ledger: definitions and proofs, and what an answer is for.
 
 // "An answer now says whether it is for an assignment or a deassignment".
-#[derive(Drop)]
+#[derive(Clone, Copy)]
 pub enum AnswerKind {
     Assignment,
     Deassignment,

@@ -1,3 +1,5 @@
+#![tactic(auto)]
+
 // Samples that are run. Document 01's: the shortest DEFINE and the longest; the shortest with its unused places full, which are not looked at;
 // and a record without a code. Document 02's P1: of each frame that it adds a shortest, a middle one and a longest, laid out by hand.
 mod deletes;

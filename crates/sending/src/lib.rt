@@ -1,3 +1,5 @@
+#![tactic(auto)]
+
 // The orders that go out to the radios of a group, in lent room.
 ghost use Rattle.std.specs.Prelude.{◌≤◌, ◌+◌, length, map, ◌≡◌};
 ghost use Rattle.std.proofs.Math.Seq.{paste};

@@ -1,3 +1,5 @@
+#![tactic(auto)]
+
 // The text of desk's replies. Each public function puts a reply to the front of `out` and answers its length; where `out` has no room for
 // the longest reply it puts nothing and answers 0.
 mod listed;

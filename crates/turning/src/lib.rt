@@ -1,3 +1,5 @@
+#![tactic(auto)]
+
 // Turning the pairs: each is changed in its place or taken out, and those that stay close up.
 ghost use Rattle.std.specs.Prelude.{◌≤◌, length, ◌≡◌};
 ghost use Rattle.rules.specs.Entries.{alter};
@@ -18,7 +20,7 @@ use rows::{
 use store::form::timed;
 
 // What becomes of the pairs: a tick, or those that an order names are taken away, or are leaving.
-#[derive(Drop)]
+#[derive(Clone, Copy)]
 pub enum Turn {
     Tick,
     Remove,

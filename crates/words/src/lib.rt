@@ -1,3 +1,5 @@
+#![tactic(auto)]
+
 // The words of a desk's line. A reader goes from a place of the line to the place behind what it read.
 // Where something else stands it goes to NOWHERE, and from NOWHERE no reader comes back: a line is good where its last reader ends at the line's end.
 ghost use Rattle.std.specs.Prelude.{◌≤◌, ◌≡◌};
@@ -24,21 +26,21 @@ const MOST: usize = 10;
 const ROOM: u64 = 0x800;
 
 // A value, and the place behind it.
-#[derive(Drop)]
+#[derive(Clone, Copy)]
 pub struct Taken {
     pub value: u64,
     pub next: usize,
 }
 
 // A value of at most 8 digits, and the place behind it.
-#[derive(Drop)]
+#[derive(Clone, Copy)]
 struct TakenShort {
     value: u32,
     next: usize,
 }
 
 // A NUMBER, and the place behind it.
-#[derive(Drop)]
+#[derive(Clone, Copy)]
 pub struct TakenNumber {
     pub ssi: u32,
     pub extension: u32,
@@ -46,28 +48,28 @@ pub struct TakenNumber {
 }
 
 // A GROUP, and the place behind it.
-#[derive(Drop)]
+#[derive(Clone, Copy)]
 pub struct TakenGroup {
     pub group: GroupAsked,
     pub next: usize,
 }
 
 // What an answer is for, and the place behind it.
-#[derive(Drop)]
+#[derive(Clone, Copy)]
 pub struct TakenKind {
     pub kind: AnswerKind,
     pub next: usize,
 }
 
 // An identity, and the place behind it.
-#[derive(Drop)]
+#[derive(Clone, Copy)]
 pub struct TakenIdentity {
     pub identity: Identity,
     pub next: usize,
 }
 
 // A list, or plainly none, and the place behind it.
-#[derive(Drop)]
+#[derive(Clone, Copy)]
 pub struct TakenList {
     pub list: Listed,
     pub next: usize,

@@ -1,3 +1,5 @@
+#![tactic(auto)]
+
 // Writing a frame: one walk over the record judges and counts, and lays nothing; a second lays the bits into the lent bytes, and judges nothing.
 mod elements;
 mod items;
@@ -17,14 +19,14 @@ use refusal::Refusal;
 use table::lines::{ACTION_TYPE_BITS, SS_TYPE, SS_TYPE_BITS, action_type};
 
 // The two walks over a record.
-#[derive(Drop)]
+#[derive(Clone, Copy)]
 pub enum Pass {
     Judge,
     Lay,
 }
 
 // What a walk over a record finds: so many bits, a value without a code, or no group.
-#[derive(Drop)]
+#[derive(Clone, Copy)]
 pub enum Walked {
     Bits(usize),
     Reserved,
@@ -32,14 +34,14 @@ pub enum Walked {
 }
 
 // Where a walk goes on: at the next bit, or nowhere, as a value has no code.
-#[derive(Drop)]
+#[derive(Clone, Copy)]
 pub enum Put {
     Next(usize),
     Bad,
 }
 
 // The same of a whole element, which holds nothing or something; it may also be the group that is missing.
-#[derive(Drop)]
+#[derive(Clone, Copy)]
 pub enum Passed {
     Empty(usize),
     Held(usize),
