@@ -6,9 +6,7 @@ use native.Mathlib.Nat.{mod-lt, div-le_self, mul-le-mul}
 use native.Mathlib.Omega.{arith}
 use lib.Pow.{pow_pos, pow_mono}
 use Rattle.bits.proofs.Windows.{joined-value}
-use borrow.Author.Rules.{rules}
-use Rattle.bits.proofs.joined.Statement.{statement}
-use Rattle.bits.proofs.joined.Tie as tie
+use Rattle.bits.proofs.joined.Goals as goal
 
 -- the bits before the field, shifted past it
 before-le : (first from width : ℕ) → first < 256 → width ≤ 32 → first / 2 ^ (8 - from) * 2 ^ width ≤ 2 ^ 40
@@ -16,28 +14,19 @@ before-le first from width h k =
     let byte : first / 2 ^ (8 - from) ≤ 256 = omega (arith, div-le_self first (2 ^ (8 - from))) in
     omega (arith, mul-le-mul byte (pow_mono {i = width} {j = 32} k))
 
-sub-before : tie.Need-overflow-sub-before
-sub-before c = search rules
+pub join-requires : goal.join-requires
+join-requires c = (omega arith, omega (arith, before-le c.args.first c.args.from c.args.width (omega arith) (omega arith)))
 
-shr-before : tie.Need-overflow-shr-before
-shr-before c = search rules
-
-join-requires : tie.Need-join-requires
-join-requires c κs = (omega arith, omega (arith, before-le c.args.first c.args.from c.args.width (omega arith) (omega arith)))
-
-join-requires-2 : tie.Need-join-requires-2
-join-requires-2 c κs =
-    let a = c.before.args in
+pub join-requires-2 : goal.join-requires-2
+join-requires-2 c =
+    let a = c.args in
     let first : c.join.result ≤ 2 ^ 41 =
     omega (arith, c.join.ensures, before-le a.first a.from a.width (omega arith) (omega arith), mod-lt a.value (pow_pos a.width), pow_mono {i = a.width} {j = 32} (omega arith)) in
     (omega arith, omega (arith, mul-le-mul first (pow_mono {i = a.after} {j = 8} (omega arith))))
 
-returns : tie.Need-returns
+pub returns : goal.returns
 returns c =
-    let a = c.before.before.args in
-    c.join2.ensures
-    ∙ ap (λ (x : ℕ). x * 2 ^ a.after + a.last % 2 ^ a.after) c.before.join.ensures
+    let a = c.args in
+    c.join-2.ensures
+    ∙ ap (λ (x : ℕ). x * 2 ^ a.after + a.last % 2 ^ a.after) c.join.ensures
     ∙ sym (joined-value a.first a.from a.value a.width a.last a.after (omega arith) (omega arith))
-
-pub joined-spec : {M : Type 1} → statement M
-joined-spec = tie.close (tie.spec sub-before shr-before join-requires join-requires-2 returns)

@@ -1,0 +1,29 @@
+-- `bits::field_at` meets its contract: each of its tests is a case of `field_at`.
+-- Assumes nothing.
+use mathlib.Core.Path.{ap, sym, ◌∙◌}
+use Prim.Native.Nat.{◌+◌, ◌≤◌}
+use native.Mathlib.Omega.{arith}
+use Rattle.bits.specs.Bits.{bits_of, value}
+use Rattle.bits.specs.declared.Taken.TheVariants.{Value}
+use Rattle.bits.proofs.Laws.{field-short, field_cut, field-wide, field-value}
+use Rattle.bits.proofs.Windows.{part-of-take}
+use Rattle.bits.proofs.field_at.Goals as goal
+
+pub returns-then-frame-bits : goal.returns-then-frame-bits
+returns-then-frame-bits c = sym (field-short _ _ _ _ (omega arith))
+
+pub returns-then-bits-at : goal.returns-then-bits-at
+returns-then-bits-at c = sym (field_cut _ _ _ _ (omega arith))
+
+pub returns-then-bits-at-2 : goal.returns-then-bits-at-2
+returns-then-bits-at-2 c = sym (field_cut _ _ _ _ (omega arith))
+
+pub returns-then-width-gt32 : goal.returns-then-width-gt32
+returns-then-width-gt32 c = sym (field-wide _ _ _ _ (omega arith))
+
+pub returns : goal.returns
+returns c =
+    let a = c.args in
+    let inside : a.at + a.width ≤ a.bits = omega arith in
+    ap Value (c.field_value.ensures ∙ ap value (sym (part-of-take a.at a.width a.bits (bits_of a.frame.now) inside)))
+    ∙ sym (field-value a.frame.now a.bits a.at a.width (omega arith) inside (omega arith))

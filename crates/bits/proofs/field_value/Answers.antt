@@ -1,0 +1,21 @@
+-- `bits::field_value` meets its contract: the law of a field in its bytes, `field-bytes`.
+-- Assumes nothing.
+use mathlib.Core.Path.{ap, sym, ◌∙◌}
+use Prim.Native.Nat.{ℕ, ◌+◌, ◌-◌, ◌*◌, ◌/◌, ◌%◌, ◌^◌}
+use native.Mathlib.Omega.{arith}
+use Rattle.bits.specs.Bits.{value}
+use Rattle.bits.proofs.Windows.{field-bytes}
+use Rattle.bits.proofs.field_value.Goals as goal
+
+pub returns-then-width-eq0 : goal.returns-then-width-eq0
+unfolding value
+returns-then-width-eq0 c = rw c.if-width-eq0.true
+
+pub returns : goal.returns
+returns c =
+    let a = c.args in
+    let from : ℕ = a.at % 8 in
+    let count : ℕ = (from + a.width + 7) / 8 in
+    c.low.ensures
+    ∙ ap (λ (x : ℕ). x / 2 ^ (8 * count - (from + a.width)) % 2 ^ a.width) c.whole_bytes-whole.ensures
+    ∙ sym (field-bytes a.frame.now a.at a.width count (omega arith) (omega arith))
