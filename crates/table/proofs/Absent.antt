@@ -140,7 +140,7 @@ length-shape (Choice w n) hang p = refl
 length-shape Identity hang p = refl
 length-shape (shape.List items) hang p = ap suc (length-repeated items p (p + 1) 0 (times items))
 length-shape Ending hang p = refl
-length-shape (Missing place) hang p = refl
+length-shape (Missing q) hang p = refl
 length-shape (Nothing o) hang p = refl
 
 -- a line's conditions look at the record so far; what holds of the whole, holds of it

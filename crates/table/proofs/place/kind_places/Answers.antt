@@ -3,12 +3,8 @@
 use mathlib.Core.Path.{refl}
 use Rattle.layout.specs.Shape.{span, spans}
 use Rattle.layout.specs.Kinds.{kind_places}
-use Rattle.table.proofs.place.kind_places.Statement.{statement}
-use Rattle.table.proofs.place.kind_places.Tie as tie
+use Rattle.table.proofs.place.kind_places.Goals as goal
 
-returns : tie.Need-returns
+pub returns : goal.returns
 unfolding kind_places span spans
 returns c = refl
-
-pub kind-places-spec : {M : Type 1} → statement M
-kind-places-spec = tie.close (tie.spec returns)
