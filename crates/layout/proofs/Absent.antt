@@ -12,7 +12,7 @@ use borrow.Author.Tests.{lt-leb, ne_eqb}
 use lib.Dec.{ltb}
 use lib.ListN.{length, take, get_or, replicate, length-append, length-take, length-replicate, get_or-eq_default}
 use lib.Seq.{get_or-take, get_or-append-add, take-suc, take_at}
-use Rattle.layout.specs.Row.{Clear, Row, Condition, is, at_least, nothing_since, holds, all, present}
+use Rattle.layout.specs.Row.{Clear, Row, Condition, is, at_least, nothing_since, holds, present}
 use Rattle.layout.specs.Shape.{identity, No, least, times, item, stride, repeated, rows_of, span}
 use Rattle.layout.specs.Write.{lay, vals}
 use Rattle.layout.specs.declared.Items.{Items}

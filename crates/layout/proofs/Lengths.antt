@@ -17,7 +17,7 @@ use Rattle.layout.specs.declared.Items.TheVariants.{Numbers, Letters}
 use Rattle.layout.specs.declared.Shape.{Shape}
 use Rattle.layout.specs.declared.Shape.TheVariants.{Number, Choice, Identity, Ending, Missing, Nothing}
 use Rattle.layout.specs.declared.Shape.TheVariants as shape
-use Rattle.layout.specs.Row.{Row, Condition, is, at_least, nothing_since, all, present, nothing, there}
+use Rattle.layout.specs.Row.{Row, Condition, is, at_least, nothing_since, all, present, there}
 use Rattle.refusal.specs.declared.Refusal.{Refusal}
 use Rattle.refusal.specs.declared.Refusal.TheVariants.{Reserved, NoGroup, NothingFollows, TypeThree}
 use Rattle.layout.specs.Shape.{row, refuse, choice, number, No, identity, codes_of, least, times, item, stride}

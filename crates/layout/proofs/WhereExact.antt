@@ -14,8 +14,8 @@ use Rattle.refusal.specs.declared.Refusal.{Refusal}
 use Rattle.refusal.specs.declared.Refusal.TheVariants.{EndsInside, BitsRemain, WrongKind, Reserved, NoGroup, NothingFollows, TypeThree}
 use Rattle.bits.specs.Bits.{value}
 use Rattle.layout.specs.declared.Kind.{Kind}
-use Rattle.layout.specs.Row.{is, Row, present, nothing, bare, there}
-use Rattle.layout.specs.Shape.{row, choice, refuse, No}
+use Rattle.layout.specs.Row.{Row, present, nothing, bare, there}
+use Rattle.layout.specs.Shape.{choice, refuse, No}
 use Rattle.layout.specs.Read.{frame, refused, took, stop, turn, read_rows}
 use Rattle.layout.specs.Write.{emit}
 use Rattle.layout.specs.Kinds.{ss_type, action_type}

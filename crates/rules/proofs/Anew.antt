@@ -17,7 +17,6 @@ use Rattle.rules.specs.Change.{after}
 use Rattle.rules.specs.Refusals.{accepted, tests}
 use Rattle.rules.specs.Demand.{Owns, told, Exactly}
 use Rattle.refusal.specs.declared.Refusal.{Refusal}
-use Rattle.rules.specs.Replies.{entries}
 use Rattle.rules.specs.Ledger.{Group, group, owners_of, parameters_of, same_pair, list}
 use Rattle.rules.specs.Entries.{find}
 use Rattle.rules.specs.History.{History, ◌then◌, named_in, tally_in, world, stands, owner, mark, radios_in, refusal_in}

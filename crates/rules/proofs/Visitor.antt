@@ -14,7 +14,7 @@ use Rattle.rules.specs.World.{World}
 use Rattle.rules.specs.Effect.{effect}
 use Rattle.rules.specs.Change.{after}
 use Rattle.rules.specs.Refusals.{accepted}
-use Rattle.rules.specs.History.{History, world, mark, refusal_in}
+use Rattle.rules.specs.History.{History, world, refusal_in}
 use Rattle.rules.specs.Visitor.{Visitor, About, answers, deassigns, assigns, Apart}
 use Rattle.rules.proofs.Tests.{split, and-false}
 use Rattle.rules.proofs.Keys.{keys-same}
