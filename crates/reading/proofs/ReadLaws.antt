@@ -23,8 +23,8 @@ use Rattle.refusal.specs.declared.Refusal.TheVariants.{EndsInside}
 use Rattle.table.specs.declared.Field.{Field}
 use Rattle.reading.specs.declared.Step.{Step}
 use Rattle.reading.specs.declared.Step.TheVariants.{Next, Refused}
-use Rattle.layout.specs.Row.{Row, Condition, nothing, holds, all, present, there}
-use Rattle.layout.specs.Read.{refused, took, stop, turn, next, read_rows}
+use Rattle.layout.specs.Row.{Row, Condition, holds, all, present}
+use Rattle.layout.specs.Read.{took, stop, turn, read_rows}
 use Rattle.layout.specs.Shape.{row}
 use Rattle.layout.proofs.Tests.{all_append, and-true}
 use Rattle.table.proofs.Walks.{Walk}
