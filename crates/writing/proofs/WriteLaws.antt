@@ -6,7 +6,7 @@ use borrow.Rule.Slice.PartMut.{put_mid, mid_of, post_of}
 use lib.ListN.{length-replicate}
 use Rattle.refusal.specs.declared.Refusal.{Refusal}
 use Rattle.refusal.specs.declared.Refusal.TheVariants.{Reserved, NoGroup, NoSpace}
-use Rattle.bits.specs.Bits.{digits, value, bits_of, bytes_for, spare, bytes_of, Bytes}
+use Rattle.bits.specs.Bits.{digits, value, bits_of, bytes_for, bytes_of, Bytes}
 use Rattle.bits.specs.Field.{put_at}
 use Rattle.bits.proofs.Laws.{length_digits, digits_value, bits_of-drop, bits-bytes, bytes_bits, bytes_of-append, bytes_of-below, put-inside}
 use Rattle.layout.specs.declared.Kind.{Kind}

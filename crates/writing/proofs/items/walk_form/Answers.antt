@@ -1,0 +1,26 @@
+-- `writing::items::walk_form` meets its contract: form 1 is an SNA, a higher one an SSI, form 3 with an extension.
+-- Assumes nothing.
+use Rattle.std.proofs.Common.{arith}
+use Rattle.writing.proofs.Identities.{sna-there, no-form, ssi-then, ssi-stop}
+use Rattle.writing.proofs.items.walk_form.Goals as goal
+
+pub returns-then-values-place-eq1 : goal.returns-then-values-place-eq1
+returns-then-values-place-eq1 c =
+    sna-there c.args.place (omega (arith, c.requires.room)) c.if-values-place-eq1.true c.walk_field.ensures
+
+pub returns-then-values-place-lt2 : goal.returns-then-values-place-lt2
+returns-then-values-place-lt2 c =
+    no-form c.args.place (omega (arith, c.requires.room)) c.args.out.now c.if-values-place-lt2.true c.if-values-place-eq1.false
+
+pub returns-in-Next : goal.returns-in-Next
+returns-in-Next c =
+    let from = c.if-values-place-lt2.false in
+    let ssi = c.walk_field-2.ensures in
+    let next = c.in-Next.is in
+    ssi-then c.args.place (omega (arith, c.requires.room)) from ssi _ _ _ next c.walk_extension.ensures
+
+pub returns-in-Bad : goal.returns-in-Bad
+returns-in-Bad c =
+    let from = c.if-values-place-lt2.false in
+    let ssi = c.walk_field-2.ensures in
+    ssi-stop c.args.place (omega (arith, c.requires.room)) from ssi c.in-Bad.is
