@@ -6,6 +6,7 @@ use mathlib.Core.Path.{◌≡◌, refl, sym, ap, ◌∙◌}
 use mathlib.Core.List.{List, ◌++◌}
 use borrow.Fn.Kinds.{ended_of}
 use contract.Lifetimes.{Lfts}
+use denote.MutBor.{MutBor}
 use denote.Ref.{Bor}
 use denote.Triple.Clauses.{AtExit}
 use borrow.Author.Tests.{le-ltb}
@@ -35,7 +36,7 @@ AfterRead = AtExit (ended_of 1 read-kinds.ps read-kinds.r)
 abbrev AfterWrite : Lfts 2 → Type 0
 AfterWrite = AtExit (ended_of 2 write-kinds.ps write-kinds.r)
 
-module _ (κs : Lfts 2) (λs : Lfts 1) (kind : Kind) (values out frame : Bor (List ℕ)) (start count : ℕ) (reading : Reading)
+module _ (κs : Lfts 2) (λs : Lfts 1) (kind : Kind) (values : Bor (List ℕ)) (out : MutBor (List ℕ)) (frame : Bor (List ℕ)) (start count : ℕ) (reading : Reading)
     (left : AfterWrite κs) (after : AfterRead λs) where
   -- what `write` made, `read` returns: the record, with 0 at the places that are not used
   pub made-then-read : write.Post κs (kind, (values, (out, (start, tt)))) (Bits count) left

@@ -7,6 +7,7 @@ use mathlib.Core.List.{List}
 use native.Mathlib.Omega.{arith}
 use borrow.Fn.Kinds.{ended_of}
 use contract.Lifetimes.{Lfts}
+use denote.MutBor.{MutBor}
 use denote.Ref.{Bor}
 use denote.Triple.Clauses.{AtExit}
 use lib.ListN.{length}
@@ -62,7 +63,7 @@ module _ (λs : Lfts 1) (kind : Kind) (values : Bor (List ℕ)) (told : Written)
       l ∙ ap (measured_of kind) full ∙ told-bits kind (fullest kind) longest.fine ∙ ap Bits longest.long
 
   -- ---- `write`, which is lent so many bytes from the start byte on
-  module _ (κs : Lfts 2) (out : Bor (List ℕ)) (start : ℕ) (written : Written) (left : AtExit (ended_of 2 write-kinds.ps write-kinds.r) κs)
+  module _ (κs : Lfts 2) (out : MutBor (List ℕ)) (start : ℕ) (written : Written) (left : AtExit (ended_of 2 write-kinds.ps write-kinds.r) κs)
       (w : write.Post κs (kind, (values, (out, (start, tt)))) written left) where
     -- as many as the length takes: it is written, with that length
     pub written-as-told : (n : ℕ) → told ≡ Bits n → start + bytes_for n ≤ length out.now → written ≡ Bits n
@@ -73,7 +74,7 @@ module _ (λs : Lfts 1) (kind : Kind) (values : Bor (List ℕ)) (told : Written)
     refused-as-told r e = w.0 ∙ told-refused kind values.now r (length out.now) start (sym l ∙ e)
 
 -- ---- `write` alone
-module _ (κs : Lfts 2) (kind : Kind) (values out : Bor (List ℕ)) (start : ℕ) (written : Written) (left : AtExit (ended_of 2 write-kinds.ps write-kinds.r) κs)
+module _ (κs : Lfts 2) (kind : Kind) (values : Bor (List ℕ)) (out : MutBor (List ℕ)) (start : ℕ) (written : Written) (left : AtExit (ended_of 2 write-kinds.ps write-kinds.r) κs)
     (w : write.Post κs (kind, (values, (out, (start, tt)))) written left) where
   -- as many as its kind's largest length takes: 8 is never given
   pub room-for-kind : start + bytes_for (largest_length kind) ≤ length out.now → written ≡ Refused NoSpace → ⊥
