@@ -6,6 +6,7 @@ use mathlib.Core.Option.{Option, none, some}
 use Prim.Native.Nat.{ℕ}
 use lib.ListN.{length, replicate, length-replicate}
 use lib.Seq.{set-get_or}
+use denote.MutBor.{MutBor}
 use denote.Ref.{Bor}
 use Rattle.refusal.specs.declared.Refusal.{Refusal}
 use Rattle.refusal.specs.declared.Refusal.TheVariants.{NotWritten}
@@ -36,15 +37,19 @@ use Rattle.replies.proofs.Orders.{refused-stays, taken-after, head-counts, count
 use Rattle.making.proofs.Standing.{formed}
 use Rattle.answering.proofs.Answered.{turned-laid, ticked-laid}
 use Rattle.demand.specs.Arguments.{Deletion, Answering, deletion_step, answering_step}
-use Rattle.demand.specs.Calls.{Storage, Empties, Ticks, Answers, HandsOver, Defines, Deletes}
+use Rattle.demand.specs.Calls.{Storage, read_only, Empties, Ticks, Answers, HandsOver, Defines, Deletes}
 use Rattle.demand.specs.Runs.{Kept, begun, defined, deleted, answered, handed_over, ticked}
 use Rattle.demand.specs.Asked as asked
 use Rattle.demand.specs.Asked.{Asked, history_of, Reached}
 use Rattle.demand.proofs.Runs.{run-stands}
 
 -- something lent
-abbrev lend : {X : Type 0} → X → Bor X
-lend x = record { ref_ptr = (0, 0); now = x }
+abbrev lend : {X : Type 0} → X → MutBor X
+lend x = record { ref_ptr = (0, 0); ghost_name = 0; now = x }
+
+-- and lent to be looked at alone
+abbrev show_only : {X : Type 0} → X → Bor X
+show_only x = read_only (lend x)
 
 abbrev lends : Contents → Storage
 lends c = record { head = lend c.head; groups = lend c.groups; pairs = lend c.pairs }
@@ -106,7 +111,7 @@ answers a c w =
     record {
       lifetimes = ([], ([], ([], tt)));
       lent = lends c;
-      left = (to.head, (lend c.groups, (to.pairs, (a.radio, (a.group, (a.kind, (a.result, tt)))))));
+      left = (to.head, (show_only c.groups, (to.pairs, (a.radio, (a.group, (a.kind, (a.result, tt)))))));
       starts = refl;
       meets = record { replies = refl; leaves = e };
       ends = e;
@@ -144,7 +149,7 @@ hands_over asker group owners c w =
     record {
       lifetimes = ([], ([], ([], tt)));
       lent = lends c;
-      left = (lend c.head, (lend (contents_after c s).groups, (lend c.pairs, (asker, (group, (owners, tt))))));
+      left = (show_only c.head, (lend (contents_after c s).groups, (show_only c.pairs, (asker, (group, (owners, tt))))));
       starts = refl;
       meets = record { replies = refl; leaves = e };
       ends = e;
@@ -157,7 +162,7 @@ ticks c w =
     record {
       lifetimes = ([], ([], ([], tt)));
       lent = lends c;
-      left = (lend c.head, (lend c.groups, (lend rows, tt)));
+      left = (show_only c.head, (show_only c.groups, (lend rows, tt)));
       starts = refl;
       meets = record { replies = refl; leaves = e };
       ends = e;
@@ -167,7 +172,7 @@ empties : (c : Contents) → roomy c ≡ true → Empties c (laid empty c) Done
 empties c r = record {
   lifetimes = ([], ([], ([], tt)));
   lent = lends c;
-  left = (lend (laid empty c).head, (lend c.groups, (lend c.pairs, tt)));
+  left = (lend (laid empty c).head, (show_only c.groups, (show_only c.pairs, tt)));
   starts = refl;
   meets = record { replies = λ i. reply_of (cond (sym r i) none (some NotWritten)); leaves = λ i. cond (sym r i) (laid empty c) c };
   ends = refl;

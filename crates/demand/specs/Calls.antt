@@ -6,7 +6,7 @@ use Rattle.std.specs.Prelude.{◌≡◌, List, ℕ}
 use contract.Lifetimes.{Lfts}
 use borrow.Fn.Kinds.{ended_of}
 use denote.Triple.Clauses.{AtExit}
-use Rattle.std.specs.Borrow.{Bor}
+use Rattle.std.specs.Borrow.{Bor, MutBor}
 use Rattle.layout.specs.declared.Record.{Record}
 use Rattle.store.specs.Storage.{Rows, Contents, contents}
 use Rattle.order.specs.declared.Itsi.{Itsi}
@@ -37,9 +37,13 @@ use Rattle.asking.proofs.show.Reads as show
 
 -- the ledger's three lent places
 pub record Storage : Type 0 where
-  pub head : Bor (List ℕ)
-  pub groups : Bor Rows
-  pub pairs : Bor Rows
+  pub head : MutBor (List ℕ)
+  pub groups : MutBor Rows
+  pub pairs : MutBor Rows
+
+-- a place, lent to be looked at alone
+abbrev pub read_only : {X : Type 0} → MutBor X → Bor X
+read_only x = record { ref_ptr = x.ref_ptr; now = x.now }
 
 abbrev pub held : Storage → Contents
 held s = contents s.head.now s.groups.now s.pairs.now
@@ -51,7 +55,7 @@ pub record Empties (before after : Contents) (reply : Reply) : Type 0 where
   pub lent : Storage
   pub left : AtExit (ended_of 3 empty-kinds.ps empty-kinds.r) lifetimes
   pub starts : held lent ≡ before
-  pub meets : empty.Post lifetimes (lent.head, (lent.groups, (lent.pairs, tt))) reply left
+  pub meets : empty.Post lifetimes (lent.head, (read_only lent.groups, (read_only lent.pairs, tt))) reply left
   pub ends : contents left.0.now lent.groups.now lent.pairs.now ≡ after
 
 pub record Ticks (before after : Contents) (reply : Reply) : Type 0 where
@@ -59,7 +63,7 @@ pub record Ticks (before after : Contents) (reply : Reply) : Type 0 where
   pub lent : Storage
   pub left : AtExit (ended_of 3 tick-kinds.ps tick-kinds.r) lifetimes
   pub starts : held lent ≡ before
-  pub meets : tick.Post lifetimes (lent.head, (lent.groups, (lent.pairs, tt))) reply left
+  pub meets : tick.Post lifetimes (read_only lent.head, (read_only lent.groups, (lent.pairs, tt))) reply left
   pub ends : contents lent.head.now lent.groups.now left.1.1.0.now ≡ after
 
 pub record Answers (a : Answering) (before after : Contents) (reply : Reply) : Type 0 where
@@ -67,7 +71,7 @@ pub record Answers (a : Answering) (before after : Contents) (reply : Reply) : T
   pub lent : Storage
   pub left : AtExit (ended_of 3 answer-kinds.ps answer-kinds.r) lifetimes
   pub starts : held lent ≡ before
-  pub meets : answer.Post lifetimes (lent.head, (lent.groups, (lent.pairs, (a.radio, (a.group, (a.kind, (a.result, tt))))))) reply left
+  pub meets : answer.Post lifetimes (lent.head, (read_only lent.groups, (lent.pairs, (a.radio, (a.group, (a.kind, (a.result, tt))))))) reply left
   pub ends : contents left.0.now lent.groups.now left.1.1.0.now ≡ after
 
 pub record HandsOver (asker : Itsi) (group : Identity) (owners : Numbers) (before after : Contents) (reply : Reply) : Type 0 where
@@ -75,13 +79,13 @@ pub record HandsOver (asker : Itsi) (group : Identity) (owners : Numbers) (befor
   pub lent : Storage
   pub left : AtExit (ended_of 3 handover-kinds.ps handover-kinds.r) lifetimes
   pub starts : held lent ≡ before
-  pub meets : handover.Post lifetimes (lent.head, (lent.groups, (lent.pairs, (asker, (group, (owners, tt)))))) reply left
+  pub meets : handover.Post lifetimes (read_only lent.head, (lent.groups, (read_only lent.pairs, (asker, (group, (owners, tt)))))) reply left
   pub ends : contents lent.head.now left.1.0.now lent.pairs.now ≡ after
 
 pub record Defines (asker : Itsi) (values : Record) (room sent : Rows) (before after : Contents) (reply : Sent) : Type 0 where
   pub lifetimes : Lfts 4
   pub lent : Storage
-  pub out : Bor Rows
+  pub out : MutBor Rows
   pub left : AtExit (ended_of 4 define-kinds.ps define-kinds.r) lifetimes
   pub starts : held lent ≡ before
   pub roomed : out.now ≡ room
@@ -92,7 +96,7 @@ pub record Defines (asker : Itsi) (values : Record) (room sent : Rows) (before a
 pub record Deletes (d : Deletion) (room sent : Rows) (before after : Contents) (reply : Sent) : Type 0 where
   pub lifetimes : Lfts 4
   pub lent : Storage
-  pub out : Bor Rows
+  pub out : MutBor Rows
   pub left : AtExit (ended_of 4 delete-kinds.ps delete-kinds.r) lifetimes
   pub starts : held lent ≡ before
   pub roomed : out.now ≡ room
@@ -106,11 +110,11 @@ pub record Deletes (d : Deletion) (room sent : Rows) (before after : Contents) (
 pub record Lists (asker : Itsi) (asked : GroupAsked) (room listed : Rows) (on : Contents) (reply : Members) : Type 0 where
   pub lifetimes : Lfts 4
   pub lent : Storage
-  pub out : Bor Rows
+  pub out : MutBor Rows
   pub left : AtExit (ended_of 4 list-kinds.ps list-kinds.r) lifetimes
   pub stands : held lent ≡ on
   pub roomed : out.now ≡ room
-  pub meets : list.Post lifetimes (lent.head, (lent.groups, (lent.pairs, (asker, (asked, (out, tt)))))) reply left
+  pub meets : list.Post lifetimes (read_only lent.head, (read_only lent.groups, (read_only lent.pairs, (asker, (asked, (out, tt)))))) reply left
   pub lists : left.1.1.1.1.1.0.now ≡ listed
 
 pub record Shows (asker : Itsi) (asked : GroupAsked) (on : Contents) (reply : Shown) : Type 0 where
@@ -118,4 +122,4 @@ pub record Shows (asker : Itsi) (asked : GroupAsked) (on : Contents) (reply : Sh
   pub lent : Storage
   pub left : AtExit (ended_of 3 show-kinds.ps show-kinds.r) lifetimes
   pub stands : held lent ≡ on
-  pub meets : show.Post lifetimes (lent.head, (lent.groups, (lent.pairs, (asker, (asked, tt))))) reply left
+  pub meets : show.Post lifetimes (read_only lent.head, (read_only lent.groups, (read_only lent.pairs, (asker, (asked, tt))))) reply left
