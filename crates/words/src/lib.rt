@@ -76,6 +76,7 @@ pub struct TakenList {
 }
 
 // The value of an upper-case hexadecimal digit.
+#[tactic(auto, unfolding(house::specs::Hex::digit_value))]
 fn digit_value(character: u8) -> u64
     ensures { result ≡ digit_value character }
 {
