@@ -2,12 +2,8 @@
 use mathlib.Core.Path.{refl}
 use Rattle.house.specs.Hex.{digit_of}
 use Rattle.house.specs.Tables.{digit_table}
-use Rattle.house.proofs.value_digits.Statement.{statement}
-use Rattle.house.proofs.value_digits.Tie as tie
+use Rattle.house.proofs.value_digits.Goals as goal
 
-returns : tie.Need-returns
+pub returns : goal.returns
 unfolding digit_table digit_of
 returns c = refl
-
-pub value-digits-spec : {M : Type 1} → statement M
-value-digits-spec = tie.close (tie.spec returns)
