@@ -10,7 +10,7 @@ pub returns-then-digits-lt6 : goal.returns-then-digits-lt6
 returns-then-digits-lt6 c = record { named = sym (odd-length c.args.line.now (λ n e. omega arith)); holds = tt; filled = tt }
 
 pub returns-then-digits-gt-LINE_DIGITS : goal.returns-then-digits-gt-LINE_DIGITS
-returns-then-digits-gt-LINE_DIGITS c = record { named = sym (too_long c.args.line.now c.if-digits-gt-LINE_DIGITS.true); holds = tt; filled = tt }
+returns-then-digits-gt-LINE_DIGITS c = record { named = sym (too_long c.args.line.now (omega arith)); holds = tt; filled = tt }
 
 pub returns-then-digits-eq1 : goal.returns-then-digits-eq1
 returns-then-digits-eq1 c = record { named = sym (odd-length c.args.line.now (λ n e. omega arith)); holds = tt; filled = tt }
