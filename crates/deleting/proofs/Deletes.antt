@@ -143,11 +143,11 @@ module _ (m : Mark) where
   deleted-turn : (remove deassign : Bool) → (not remove && not deassign) ≡ false → (listed : Bool) (gs rs : List ℕ) (ack : Bool) (k : Pair)
       → turn_of (parting remove ack) gs (listed && not remove) rs k m
       ≡ cond (mem k.0 gs && (remove || (deassign && cond listed (mem k.1 rs) true))) (cond (not remove && ack) (some (fresh leaving)) none) (some m)
-  deleted-turn true deassign e true gs rs ack k = turns false (mem k.0 gs && true)
-  deleted-turn true deassign e false gs rs ack k = turns false (mem k.0 gs && true)
-  deleted-turn false true e true gs rs ack k = turns ack (mem k.0 gs && mem k.1 rs)
-  deleted-turn false true e false gs rs ack k = turns ack (mem k.0 gs && true)
-  deleted-turn false false e listed gs rs ack k = absurd (true≢false e)
+  deleted-turn true _ e true groups _ ack k = turns false (mem k.0 groups && true)
+  deleted-turn true _ e false groups _ ack k = turns false (mem k.0 groups && true)
+  deleted-turn false true e true groups radios ack k = turns ack (mem k.0 groups && mem k.1 radios)
+  deleted-turn false true e false groups _ ack k = turns ack (mem k.0 groups && true)
+  deleted-turn false false e listed _ _ ack k = absurd (true≢false e)
 
 -- the groups: those named go where the delete says so
 deleted-groups : (remove : Bool) (named : List ℕ) (l : List (ℕ × Group))
