@@ -2,7 +2,7 @@
 ghost use Rattle.std.specs.Prelude.{◌≤◌, length};
 ghost use Rattle.desk.specs.Room.{Within};
 
-use libc::{STDERR_FILENO, STDIN_FILENO};
+use std::io::{Error, ErrorKind, Read};
 
 // How many bytes of a line are held, and which of the bytes read are still to be taken, from `at` on and before `end`;
 // whether the line is whole, and whether more may come.
@@ -72,41 +72,36 @@ fn take_bytes(bytes: &[u8], from: usize, end: usize, line: &mut [u8], before: us
 
 // Whether a read that failed was only interrupted. Any other failure is told, with the reason, and so is an unfinished line: nothing says that
 // it was to end there, so it is no order.
-fn interrupted(held: usize) -> bool {
-    if os::errno() == libc::EINTR {
+fn interrupted(rt: &impl Eprint, error: Error, held: usize) -> bool {
+    if error.kind() == ErrorKind::Interrupted {
         return true;
     }
-    os::fail(b"desk: standard input could not be read");
+    let _ = eprintln!(rt; "desk: standard input could not be read: {error}");
     if 0 < held {
-        io::write_all(
-            STDERR_FILENO,
-            b"desk: the unfinished last line is not carried out\n",
-        );
+        let _ = eprintln!(rt; "desk: the unfinished last line is not carried out");
     }
     false
 }
 
 // Reads once. At the end of the input a last line that lacks its newline is whole. An interrupted read brings nothing, and the next turn reads again.
-fn read_bytes(bytes: &mut [u8], held: usize) -> Input
+fn read_bytes(rt: &impl Eprint, reader: &mut impl Read, bytes: &mut [u8], held: usize) -> Input
     ensures { Within held (length bytes.new) result }
 {
-    let got = libc::read(STDIN_FILENO, bytes);
-    let count = io::count(got, bytes);
-    if got < 0 {
-        return Input {
+    match reader.read(bytes) {
+        Ok(count) => Input {
+            held,
+            at: 0,
+            end: count,
+            whole: (count == 0) & (0 < held),
+            open: 0 < count,
+        },
+        Err(error) => Input {
             held,
             at: 0,
             end: 0,
             whole: false,
-            open: interrupted(held),
-        };
-    }
-    Input {
-        held,
-        at: 0,
-        end: count,
-        whole: (count == 0) & (0 < held),
-        open: 0 < count,
+            open: interrupted(rt, error, held),
+        },
     }
 }
 
@@ -118,7 +113,13 @@ fn kept(input: Input) -> usize
 }
 
 // One turn: takes bytes up to the end of a line, or reads where all are taken.
-pub fn turn(input: Input, bytes: &mut [u8], line: &mut [u8]) -> Input
+pub fn turn(
+    rt: &impl Eprint,
+    reader: &mut impl Read,
+    input: Input,
+    bytes: &mut [u8],
+    line: &mut [u8],
+) -> Input
     requires { Within (length line.old) (length bytes.old) input }
     ensures { Within (length line.new) (length bytes.new) result }
 {
@@ -128,5 +129,5 @@ pub fn turn(input: Input, bytes: &mut [u8], line: &mut [u8]) -> Input
     if at < end {
         return take_bytes(bytes, at, end, line, held);
     }
-    read_bytes(bytes, held)
+    read_bytes(rt, reader, bytes, held)
 }

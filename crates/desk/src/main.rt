@@ -12,11 +12,14 @@ use input::{turn, unread};
 use ledger::{
     ENTRY_WORDS, GROUP_WORDS, HEAD_WORDS, MAX_GROUPS, MAX_PAIRS, ORDER_WORDS, PAIR_WORDS,
 };
-use libc::STDOUT_FILENO;
 use orders::{REPLY, reply_to};
+use std::io::Read;
+
+// How many bytes one read brings at most.
+const BUFFER: usize = 4096;
 
 // Writes a reply and a newline out, if there is one: false where that fails, which is told, with the reason.
-fn send(whole: bool, out: &mut [u8], count: usize) -> bool
+fn send(rt: &(impl Print + Eprint), whole: bool, out: &mut [u8], count: usize) -> bool
     requires { count < length out.old }
 {
     if !whole {
@@ -24,11 +27,13 @@ fn send(whole: bool, out: &mut [u8], count: usize) -> bool
     }
     let end = count + 1;
     out[count] = b'\n';
-    if io::write_all(STDOUT_FILENO, &out[..end]) {
-        return true;
+    match rt.write_all(&out[..end]) {
+        Ok(()) => true,
+        Err(e) => {
+            let _ = eprintln!(rt; "desk: standard output could not be written: {e}");
+            false
+        }
     }
-    os::fail(b"desk: standard output could not be written");
-    false
 }
 
 // The turns that are left after one: none where the work ends.
@@ -41,6 +46,8 @@ fn left(turns: u64, open: bool) -> u64
 
 // Answers line by line. A proved loop has to end, and nothing says that the input does: the turns are counted down from a number that no run uses up.
 fn attend(
+    rt: &(impl Print + Eprint),
+    reader: &mut impl Read,
     bytes: &mut [u8],
     line: &mut [u8],
     head: &mut [u64; HEAD_WORDS],
@@ -53,7 +60,7 @@ fn attend(
     let mut input = unread();
     let mut turns = u64::MAX;
     while 0 < turns {
-        input = turn(input, bytes, line);
+        input = turn(rt, reader, input, bytes, line);
         let held = input.held;
         let count = reply_to(
             input.whole,
@@ -65,13 +72,14 @@ fn attend(
             radios,
             out,
         );
-        turns = left(turns, input.open & send(input.whole, out, count));
+        turns = left(turns, input.open & send(rt, input.whole, out, count));
     }
 }
 
 // The longest line is a D with the longest house text, 457 bytes; one more shows that a line is too long.
-fn main() {
-    let mut bytes = io::buffer();
+fn main(rt: HostRuntime) {
+    let mut reader = rt.stdin();
+    let mut bytes = [0u8; BUFFER];
     let mut line = [0u8; 458];
     let mut head = [0u64; HEAD_WORDS];
     let mut groups = [[0u64; GROUP_WORDS]; MAX_GROUPS];
@@ -80,6 +88,8 @@ fn main() {
     let mut radios = [[0u64; ENTRY_WORDS]; MAX_PAIRS];
     let mut out = [0u8; REPLY];
     attend(
+        &rt,
+        &mut reader,
         &mut bytes,
         &mut line,
         &mut head,

@@ -12,6 +12,7 @@ use Rattle.echo.specs.Line.{newline, has_newline, until_newline, line_end, unfin
 
 -- a line that ends before the text does has its newline
 until-less : (text : List ℕ) → until_newline text < length text → has_newline text ≡ true
+until-less [] less = elim less [ ]
 until-less (byte ∷ text) less = by_first (eqb byte newline) refl (until-less text)
   where
     by_first : (t : Bool) → eqb byte newline ≡ t → (until_newline text < length text → has_newline text ≡ true) → has_newline (byte ∷ text) ≡ true
@@ -20,6 +21,7 @@ until-less (byte ∷ text) less = by_first (eqb byte newline) refl (until-less t
 
 -- behind a line's newline the same is left
 past-newline : (text : List ℕ) → until_newline text < length text → unfinished (drop (suc (until_newline text)) text) ≡ unfinished text
+past-newline [] less = elim less [ ]
 past-newline (byte ∷ text) less = by_first (eqb byte newline) refl (past-newline text)
   where
     by_first : (t : Bool) → eqb byte newline ≡ t → (until_newline text < length text → unfinished (drop (suc (until_newline text)) text) ≡ unfinished text)

@@ -10,7 +10,10 @@ ghost use Rattle.echo.specs.Reply.{reply_to};
 ghost use Rattle.echo.specs.Room.{longest_reply, most_held, RoomIn, RestOf, KeptOf, HeldIn};
 
 use house::echo_line;
-use libc::{STDERR_FILENO, STDIN_FILENO, STDOUT_FILENO};
+use std::io::{Error, ErrorKind, Read};
+
+// How many bytes a read brings at most, and how many of replies go out at once at most.
+const BUFFER: usize = 65536;
 
 // The longest reply: A, the 432 digits of the longest line, and a newline.
 const REPLY: usize = 434;
@@ -97,23 +100,25 @@ fn reply(line: &[u8], out: &mut [u8]) -> usize
 }
 
 // Writes replies out. Where that fails it is told, with the reason.
-fn send(replies: &[u8]) -> bool {
-    if io::write_all(STDOUT_FILENO, replies) {
-        return true;
+fn send(rt: &(impl Print + Eprint), replies: &[u8]) -> bool {
+    match rt.write_all(replies) {
+        Ok(()) => true,
+        Err(e) => {
+            let _ = eprintln!(rt; "echo: standard output could not be written: {e}");
+            false
+        }
     }
-    os::fail(b"echo: standard output could not be written");
-    false
 }
 
 // How many bytes of `out` are filled after it was written out, which it is where the next reply might not fit.
-fn make_room(out: &[u8], filled: usize) -> Room
+fn make_room(rt: &(impl Print + Eprint), out: &[u8], filled: usize) -> Room
     requires { (filled ≤ length out.now) × (longest_reply ≤ length out.now) }
     ensures { RoomIn (length out.now) result }
 {
     if REPLY <= out.len() - filled {
         return Room::Filled(filled);
     }
-    if send(&out[..filled]) {
+    if send(rt, &out[..filled]) {
         Room::Filled(0)
     } else {
         Room::Failed
@@ -121,16 +126,16 @@ fn make_room(out: &[u8], filled: usize) -> Room
 }
 
 // Answers a line behind what is filled.
-fn answer(line: &[u8], out: &mut [u8], filled: usize) -> Room
+fn answer(rt: &(impl Print + Eprint), line: &[u8], out: &mut [u8], filled: usize) -> Room
     requires { filled + longest_reply ≤ length out.old }
     ensures { RoomIn (length out.new) result × (out.new ≡ sets out.old filled (reply_to line.now)) }
 {
     let count = reply(line, &mut out[filled..]);
-    make_room(out, filled + count)
+    make_room(rt, out, filled + count)
 }
 
 // Answers every whole line of the text.
-fn answer_lines(text: &[u8], out: &mut [u8]) -> Progress
+fn answer_lines(rt: &(impl Print + Eprint), text: &[u8], out: &mut [u8]) -> Progress
     requires { longest_reply ≤ length out.old }
     ensures { RestOf text.now result }
 {
@@ -138,14 +143,14 @@ fn answer_lines(text: &[u8], out: &mut [u8]) -> Progress
     let mut filled = 0;
     let mut end = line_end(text, 0);
     while end < text.len() {
-        let Room::Filled(left) = answer(&text[from..end], out, filled) else {
+        let Room::Filled(left) = answer(rt, &text[from..end], out, filled) else {
             return Progress::Failed;
         };
         filled = left;
         from = end + 1;
         end = line_end(text, from);
     }
-    if send(&out[..filled]) {
+    if send(rt, &out[..filled]) {
         Progress::Rest(from)
     } else {
         Progress::Failed
@@ -173,46 +178,41 @@ fn keep(input: &mut [u8], from: usize, count: usize)
 
 // Whether a read that failed was only interrupted. Any other failure is told, with the reason, and so is an unfinished line: nothing says that
 // it was to end there, so it gets no reply.
-fn interrupted(held: usize) -> bool {
-    if os::errno() == libc::EINTR {
+fn interrupted(rt: &impl Eprint, error: Error, held: usize) -> bool {
+    if error.kind() == ErrorKind::Interrupted {
         return true;
     }
-    os::fail(b"echo: standard input could not be read");
+    let _ = eprintln!(rt; "echo: standard input could not be read: {error}");
     if 0 < held {
-        io::write_all(
-            STDERR_FILENO,
-            b"echo: the unfinished last line is not answered\n",
-        );
+        let _ = eprintln!(rt; "echo: the unfinished last line is not answered");
     }
     false
 }
 
 // Reads once, behind the bytes that are held: how many there are then. An interrupted read adds none, and the next turn reads again.
-fn read_more(input: &mut [u8], held: usize) -> Input
+fn read_more(rt: &impl Eprint, reader: &mut impl Read, input: &mut [u8], held: usize) -> Input
     requires { held ≤ length input.old }
     ensures { HeldIn (length input.new) result }
 {
-    let more = &mut input[held..];
-    let got = libc::read(STDIN_FILENO, more);
-    let count = io::count(got, more);
-    if got < 0 {
-        if interrupted(held) {
-            return Input::Held(held);
+    match reader.read(&mut input[held..]) {
+        Ok(0) => Input::Ended,
+        Ok(count) => Input::Held(held + count),
+        Err(error) => {
+            if interrupted(rt, error, held) {
+                Input::Held(held)
+            } else {
+                Input::Failed
+            }
         }
-        return Input::Failed;
     }
-    if count == 0 {
-        return Input::Ended;
-    }
-    Input::Held(held + count)
 }
 
 // Answers the whole lines of the first `end` bytes, and keeps the rest.
-fn answer_all(input: &mut [u8], end: usize, out: &mut [u8]) -> Input
+fn answer_all(rt: &(impl Print + Eprint), input: &mut [u8], end: usize, out: &mut [u8]) -> Input
     requires { (end ≤ length input.old) × (longest_reply ≤ length out.old) }
     ensures { HeldIn most_held result × KeptOf (take end input.old) input.new result }
 {
-    let Progress::Rest(from) = answer_lines(&input[..end], out) else {
+    let Progress::Rest(from) = answer_lines(rt, &input[..end], out) else {
         return Input::Failed;
     };
     let count = worth_keeping(end - from);
@@ -221,24 +221,30 @@ fn answer_all(input: &mut [u8], end: usize, out: &mut [u8]) -> Input
 }
 
 // Answers the last line, if it lacks its newline.
-fn finish(input: &[u8], held: usize, out: &mut [u8])
+fn finish(rt: &(impl Print + Eprint), input: &[u8], held: usize, out: &mut [u8])
     requires { (held ≤ length input.now) × (longest_reply ≤ length out.old) }
 {
     if 0 < held {
         let count = reply(&input[..held], out);
-        send(&out[..count]);
+        send(rt, &out[..count]);
     }
 }
 
 // Reads once, and answers what is whole then; at the end of the input also the last line.
-fn turn(input: &mut [u8], held: usize, out: &mut [u8]) -> Input
+fn turn(
+    rt: &(impl Print + Eprint),
+    reader: &mut impl Read,
+    input: &mut [u8],
+    held: usize,
+    out: &mut [u8],
+) -> Input
     requires { (held ≤ length input.old) × (longest_reply ≤ length out.old) }
     ensures { HeldIn most_held result }
 {
-    match read_more(input, held) {
-        Input::Held(end) => answer_all(input, end, out),
+    match read_more(rt, reader, input, held) {
+        Input::Held(end) => answer_all(rt, input, end, out),
         Input::Ended => {
-            finish(input, held, out);
+            finish(rt, input, held, out);
             Input::Ended
         }
         Input::Failed => Input::Failed,
@@ -246,22 +252,23 @@ fn turn(input: &mut [u8], held: usize, out: &mut [u8]) -> Input
 }
 
 // A proved loop has to end, and nothing says that the input does: the turns are counted down from a number that no run uses up.
-fn echo_all(input: &mut [u8], out: &mut [u8])
+fn echo_all(rt: &(impl Print + Eprint), reader: &mut impl Read, input: &mut [u8], out: &mut [u8])
     requires { (most_held ≤ length input.old) × (longest_reply ≤ length out.old) }
 {
     let mut held = 0;
     let mut turns = u64::MAX;
     while 0 < turns {
         turns -= 1;
-        let Input::Held(count) = turn(input, held, out) else {
+        let Input::Held(count) = turn(rt, reader, input, held, out) else {
             return;
         };
         held = count;
     }
 }
 
-fn main() {
-    let mut input = io::large_buffer();
-    let mut out = io::large_buffer();
-    echo_all(&mut input, &mut out);
+fn main(rt: HostRuntime) {
+    let mut reader = rt.stdin();
+    let mut input = [0u8; BUFFER];
+    let mut out = [0u8; BUFFER];
+    echo_all(&rt, &mut reader, &mut input, &mut out);
 }

@@ -7,6 +7,7 @@ ghost use Rattle.layout.specs.Shape.{list_places};
 use frame::place::*;
 use frame::{Kind, PLACES, Record, Written};
 use refusal::number;
+use std::io;
 
 // A record with 1 in every place: each answer is yes and each option there, a list has one SNA, a name one letter.
 pub fn ones() -> Record {
@@ -28,17 +29,13 @@ pub fn listed(values: Record, place: usize, count: u32, form: u32) -> Record
 }
 
 // Prints what is told of the length of a record's frame.
-pub fn told(name: &[u8], kind: Kind, values: Record) {
-    io::write_all(1, name);
+pub fn told(rt: &impl Print, name: &[u8], kind: Kind, values: Record) -> io::Result<()> {
+    rt.write_all(name)?;
     match frame::length(kind, &values.place) {
-        Written::Bits(n) => {
-            io::write_all(1, b": ");
-            io::print_decimal(1, n as u64);
-        }
+        Written::Bits(n) => println!(rt; ": {n}"),
         Written::Refused(refusal) => {
-            io::write_all(1, b": refused with ");
-            io::print_decimal(1, number(refusal) as u64);
+            let number = number(refusal);
+            println!(rt; ": refused with {number}")
         }
     }
-    io::write_all(1, b"\n");
 }

@@ -5,15 +5,17 @@ mod held;
 mod orders;
 mod replies;
 
-fn main() {
-    orders::defines();
-    replies::define_acks();
-    orders::cancels();
-    replies::cancel_acks();
-    orders::assigns();
-    replies::assigning_acks();
-    orders::deassigns();
-    replies::deassigning_acks();
-    orders::deletes();
-    replies::delete_acks();
+use std::io;
+
+fn main(rt: HostRuntime) -> io::Result<()> {
+    orders::defines(&rt)?;
+    replies::define_acks(&rt)?;
+    orders::cancels(&rt)?;
+    replies::cancel_acks(&rt)?;
+    orders::assigns(&rt)?;
+    replies::assigning_acks(&rt)?;
+    orders::deassigns(&rt)?;
+    replies::deassigning_acks(&rt)?;
+    orders::deletes(&rt)?;
+    replies::delete_acks(&rt)
 }

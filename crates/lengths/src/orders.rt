@@ -3,25 +3,26 @@ use crate::held::{listed, ones, told};
 use frame::place::define::*;
 use frame::place::{assign, cancel, deassign, delete, *};
 use frame::{Kind, Record};
+use std::io;
 
 // Table 19.
-pub fn defines() {
+pub fn defines(rt: &impl Print) -> io::Result<()> {
     let kind = Kind::Define;
     let mut r = ones();
     r.place[O_BIT] = 0;
     r.place[GIVEN] = NO;
-    told(b"DEFINE, a call, no group", kind, r);
+    told(rt, b"DEFINE, a call, no group", kind, r)?;
     r.place[CALL_RELATED] = NO;
-    told(b"DEFINE, no call, no group", kind, r);
+    told(rt, b"DEFINE, no call, no group", kind, r)?;
     r = listed(r, GROUPS, 1, SSI_FORM);
     r.place[GIVEN] = YES;
-    told(b"DEFINE, one SSI", kind, r);
-    told(b"DEFINE, radios of three forms", kind, middle_define());
+    told(rt, b"DEFINE, one SSI", kind, r)?;
+    told(rt, b"DEFINE, radios of three forms", kind, middle_define())?;
     let full = listed(ones(), GROUPS, 11, EXTENDED_FORM);
     let full = listed(full, OWNERS, 11, EXTENDED_FORM);
     let mut full = listed(full, RADIOS, 11, EXTENDED_FORM);
     full.place[NAME] = 16;
-    told(b"DEFINE, all there is", kind, full);
+    told(rt, b"DEFINE, all there is", kind, full)
 }
 
 // A range of SSIs, owners not included, a name of five letters, assigned to three radios, acknowledgement requested.
@@ -43,29 +44,29 @@ fn middle_define() -> Record {
 }
 
 // Table 33.
-pub fn cancels() {
+pub fn cancels(rt: &impl Print) -> io::Result<()> {
     let kind = Kind::Cancel;
     let mut r = ones();
-    told(b"CANCEL, a call, an SNA", kind, r);
+    told(rt, b"CANCEL, a call, an SNA", kind, r)?;
     r.place[cancel::CALL_RELATED] = NO;
     r.place[cancel::DEFINED_GROUP] = SSI_FORM;
     r.place[cancel::EXISTING_GROUP] = SSI_FORM;
-    told(b"CANCEL, two SSIs", kind, r);
+    told(rt, b"CANCEL, two SSIs", kind, r)?;
     r.place[cancel::DEFINED_GROUP] = EXTENDED_FORM;
     r.place[cancel::EXISTING_GROUP] = EXTENDED_FORM;
-    told(b"CANCEL, all there is", kind, r);
+    told(rt, b"CANCEL, all there is", kind, r)
 }
 
 // Table 23.
-pub fn assigns() {
+pub fn assigns(rt: &impl Print) -> io::Result<()> {
     let kind = Kind::Assign;
     let mut r = ones();
     r.place[assign::O_BIT] = 0;
-    told(b"ASSIGN, an SNA", kind, r);
-    told(b"ASSIGN, a name and a class", kind, middle_assign());
+    told(rt, b"ASSIGN, an SNA", kind, r)?;
+    told(rt, b"ASSIGN, a name and a class", kind, middle_assign())?;
     let mut full = listed(ones(), assign::GROUPS, 11, EXTENDED_FORM);
     full.place[assign::NAME] = 16;
-    told(b"ASSIGN, all there is", kind, full);
+    told(rt, b"ASSIGN, all there is", kind, full)
 }
 
 // An SSI, and one with its extension; acknowledged call, a name of two letters, class of usage.
@@ -82,30 +83,30 @@ fn middle_assign() -> Record {
 }
 
 // Table 25.
-pub fn deassigns() {
+pub fn deassigns(rt: &impl Print) -> io::Result<()> {
     let kind = Kind::Deassign;
     let mut r = ones();
     r.place[deassign::O_BIT] = 0;
-    told(b"DEASSIGN, an SNA", kind, r);
+    told(rt, b"DEASSIGN, an SNA", kind, r)?;
     r = listed(ones(), deassign::GROUPS, 4, SNA_FORM);
     r.place[deassign::GROUPS + 1 + IDENTITY_PLACES] = SSI_FORM;
     r.place[deassign::GROUPS + 1 + 2 * IDENTITY_PLACES] = EXTENDED_FORM;
-    told(b"DEASSIGN, groups of three forms", kind, r);
+    told(rt, b"DEASSIGN, groups of three forms", kind, r)?;
     r = listed(ones(), deassign::GROUPS, 11, EXTENDED_FORM);
-    told(b"DEASSIGN, all there is", kind, r);
+    told(rt, b"DEASSIGN, all there is", kind, r)
 }
 
 // Table 21.
-pub fn deletes() {
+pub fn deletes(rt: &impl Print) -> io::Result<()> {
     let kind = Kind::Delete;
     let mut r = ones();
     r.place[delete::REMOVED] = NO;
     r.place[delete::O_BIT] = 0;
-    told(b"DELETE, an SNA", kind, r);
+    told(rt, b"DELETE, an SNA", kind, r)?;
     r = listed(ones(), delete::GROUPS, 1, SSI_FORM);
     r = listed(r, delete::RADIOS, 1, SSI_FORM);
-    told(b"DELETE, an SSI from an SSI", kind, r);
+    told(rt, b"DELETE, an SSI from an SSI", kind, r)?;
     r = listed(ones(), delete::GROUPS, 11, EXTENDED_FORM);
     r = listed(r, delete::RADIOS, 11, EXTENDED_FORM);
-    told(b"DELETE, all there is", kind, r);
+    told(rt, b"DELETE, all there is", kind, r)
 }

@@ -3,6 +3,7 @@ ghost use Rattle.std.specs.Prelude.{◌≤◌, ◌<◌, length};
 
 use frame::{Kind, PLACES, Reading, Record, Verdict, Written};
 use refusal::number;
+use std::io;
 
 // What the buffer holds before: a byte that no frame here ends with.
 const FILLER: u8 = 0xFF;
@@ -12,28 +13,38 @@ const BUFFER: usize = 256;
 const START: usize = 5;
 
 // Writes a record and reads it again, and prints what was seen, beside the record that is wanted again.
-pub fn again(name: &[u8], kind: Kind, values: Record, wanted: Record) {
+pub fn again(
+    rt: &impl Print,
+    name: &[u8],
+    kind: Kind,
+    values: Record,
+    wanted: Record,
+) -> io::Result<()> {
     let mut out = [FILLER; BUFFER];
-    io::write_all(1, name);
+    rt.write_all(name)?;
     match frame::write(kind, &values.place, &mut out, START) {
         Written::Bits(n) => {
-            io::print_decimal(1, n as u64);
-            io::write_all(1, b" bits in ");
-            io::print_decimal(1, used(&out[START..]) as u64);
-            io::write_all(1, b" bytes");
+            let bytes = used(&out[START..]);
+            print!(rt; "{n} bits in {bytes} bytes")?;
             let taken = alike(wanted, frame::read(kind, &out[START..], n));
-            tell(taken, b", read again alike\n", b", read otherwise\n");
+            tell(rt, taken, b", read again alike\n", b", read otherwise\n")
         }
         Written::Refused(refusal) => {
-            io::write_all(1, b"refused with ");
-            io::print_decimal(1, number(refusal) as u64);
-            io::write_all(1, b"\n");
+            let number = number(refusal);
+            println!(rt; "refused with {number}")
         }
     }
 }
 
 // Writes a record, and reads the frame that was laid out by hand, `bits` bits in digits; prints whether each gives the other.
-pub fn by_hand(name: &[u8], kind: Kind, values: Record, bits: usize, digits: &[u8])
+pub fn by_hand(
+    rt: &impl Print,
+    name: &[u8],
+    kind: Kind,
+    values: Record,
+    bits: usize,
+    digits: &[u8],
+) -> io::Result<()>
     requires { length digits.now ≤ 426 }
 {
     let wanted = laid_out(digits);
@@ -41,23 +52,20 @@ pub fn by_hand(name: &[u8], kind: Kind, values: Record, bits: usize, digits: &[u
     let count = written(frame::write(kind, &values.place, &mut out, START));
     let laid = (count == bits) & same_bytes(&out, &wanted);
     let taken = alike(values, frame::read(kind, &wanted[START..], bits));
-    io::write_all(1, name);
-    io::print_decimal(1, bits as u64);
+    rt.write_all(name)?;
+    print!(rt; "{bits}")?;
     tell(
+        rt,
         laid,
         b" bits, written as by hand",
         b" bits, written otherwise",
-    );
-    tell(taken, b", read as by hand\n", b", read otherwise\n");
+    )?;
+    tell(rt, taken, b", read as by hand\n", b", read otherwise\n")
 }
 
 // Prints one text or the other.
-fn tell(first: bool, a: &[u8], b: &[u8]) {
-    if first {
-        io::write_all(1, a);
-    } else {
-        io::write_all(1, b);
-    }
+fn tell(rt: &impl Print, first: bool, a: &[u8], b: &[u8]) -> io::Result<()> {
+    rt.write_all(if first { a } else { b })
 }
 
 // The bits that were written; none where the record was refused.

@@ -12,29 +12,32 @@ use frame::place::*;
 use frame::{Kind, PLACES, Record};
 use held::again;
 use records::{name, option, put, ten};
+use std::io;
 
-fn main() {
+fn main(rt: HostRuntime) -> io::Result<()> {
     let define = Kind::Define;
-    again(b"shortest DEFINE: ", define, shortest(), shortest());
-    again(b"longest DEFINE: ", define, longest(), longest());
+    again(&rt, b"shortest DEFINE: ", define, shortest(), shortest())?;
+    again(&rt, b"longest DEFINE: ", define, longest(), longest())?;
     again(
+        &rt,
         b"shortest DEFINE, unused places full: ",
         define,
         crowded(),
         shortest(),
-    );
+    )?;
     again(
+        &rt,
         b"acknowledgement with another value than requested: ",
         define,
         unrequested(),
         unrequested(),
-    );
-    radios::assigns();
-    radios::assigning_acks();
-    radios::deassigns();
-    radios::deassigning_acks();
-    deletes::deletes();
-    deletes::delete_acks();
+    )?;
+    radios::assigns(&rt)?;
+    radios::assigning_acks(&rt)?;
+    radios::deassigns(&rt)?;
+    radios::deassigning_acks(&rt)?;
+    deletes::deletes(&rt)?;
+    deletes::delete_acks(&rt)
 }
 
 // The shortest, with an acknowledgement that is there and is not requested: a value without a code.

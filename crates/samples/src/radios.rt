@@ -4,20 +4,23 @@ use crate::held::by_hand;
 use crate::records::*;
 use frame::place::{assign, assigning_ack, deassign, deassigning_ack, *};
 use frame::{Kind, Record};
+use std::io;
 
 // Table 23. Shortest: SNA 7.
-pub fn assigns() {
+pub fn assigns(rt: &impl Print) -> io::Result<()> {
     let kind = Kind::Assign;
     let shortest = one_sna(frame::blank(), assign::GROUPS, 7);
-    by_hand(b"shortest ASSIGN: ", kind, shortest, 25, b"50400700");
+    by_hand(rt, b"shortest ASSIGN: ", kind, shortest, 25, b"50400700")?;
     by_hand(
+        rt,
         b"middle ASSIGN: ",
         kind,
         middle_assign(),
         124,
         b"5049000005800001800001F228284E00",
-    );
+    )?;
     by_hand(
+        rt,
         b"longest ASSIGN: ",
         kind,
         longest_assign(),
@@ -25,7 +28,7 @@ pub fn assigns() {
         b"506A000003000004800001C00002200000B00000C800003C0000420000130000\
         14800005C00006200001B00001C800007C000082000023000024800009C0000A\
         37F303132333435363738393A3B3C3D3E3FBBEEAF37BC0",
-    );
+    )
 }
 
 // SSI 5, and SSI 6 with extension 7; acknowledged call, name AB, class 6.
@@ -55,18 +58,27 @@ fn longest_assign() -> Record {
 }
 
 // Table 24. Shortest: SNA 7, accepted.
-pub fn assigning_acks() {
+pub fn assigning_acks(rt: &impl Print) -> io::Result<()> {
     let kind = Kind::AssigningAck;
     let shortest = one_sna(frame::blank(), assigning_ack::GROUPS, 7);
-    by_hand(b"shortest ASSIGNING-ACK: ", kind, shortest, 27, b"50400700");
     by_hand(
+        rt,
+        b"shortest ASSIGNING-ACK: ",
+        kind,
+        shortest,
+        27,
+        b"50400700",
+    )?;
+    by_hand(
+        rt,
         b"middle ASSIGNING-ACK: ",
         kind,
         middle_assigning_ack(),
         72,
         b"504500006440001B7E",
-    );
+    )?;
     by_hand(
+        rt,
         b"longest ASSIGNING-ACK: ",
         kind,
         longest_assigning_ack(),
@@ -74,7 +86,7 @@ pub fn assigning_acks() {
         b"506A000003000004800001C00002200000B00000C800003C0000420000130000\
         14800005C00006200001B00001C800007C000082000023000024800009C0000A\
         1C",
-    );
+    )
 }
 
 // The range SSI 100 to 109, database overflow, detachment.
@@ -96,18 +108,20 @@ fn longest_assigning_ack() -> Record {
 }
 
 // Table 25. Shortest: SNA 7.
-pub fn deassigns() {
+pub fn deassigns(rt: &impl Print) -> io::Result<()> {
     let kind = Kind::Deassign;
     let shortest = one_sna(frame::blank(), deassign::GROUPS, 7);
-    by_hand(b"shortest DEASSIGN: ", kind, shortest, 25, b"50800700");
+    by_hand(rt, b"shortest DEASSIGN: ", kind, shortest, 25, b"50800700")?;
     by_hand(
+        rt,
         b"middle DEASSIGN: ",
         kind,
         middle_deassign(),
         104,
         b"508C01400000A000003000004C",
-    );
+    )?;
     by_hand(
+        rt,
         b"longest DEASSIGN: ",
         kind,
         longest_deassign(),
@@ -115,7 +129,7 @@ pub fn deassigns() {
         b"50AA000003000004800001C00002200000B00000C800003C0000420000130000\
         14800005C00006200001B00001C800007C000082000023000024800009C0000A\
         30",
-    );
+    )
 }
 
 // SNA 1, SSI 2, and SSI 3 with extension 4; acknowledgement requested.
@@ -136,24 +150,27 @@ fn longest_deassign() -> Record {
 }
 
 // Table 26. Shortest: SNA 7, result 0.
-pub fn deassigning_acks() {
+pub fn deassigning_acks(rt: &impl Print) -> io::Result<()> {
     let kind = Kind::DeassigningAck;
     let shortest = one_sna(frame::blank(), deassigning_ack::GROUPS, 7);
     by_hand(
+        rt,
         b"shortest DEASSIGNING-ACK: ",
         kind,
         shortest,
         28,
         b"50800700",
-    );
+    )?;
     by_hand(
+        rt,
         b"middle DEASSIGNING-ACK: ",
         kind,
         middle_deassigning_ack(),
         70,
         b"508900000540000194",
-    );
+    )?;
     by_hand(
+        rt,
         b"longest DEASSIGNING-ACK: ",
         kind,
         longest_deassigning_ack(),
@@ -161,7 +178,7 @@ pub fn deassigning_acks() {
         b"50AA000003000004800001C00002200000B00000C800003C0000420000130000\
         14800005C00006200001B00001C800007C000082000023000024800009C0000A\
         24",
-    );
+    )
 }
 
 // SSI 5 and SSI 6, result 5.
