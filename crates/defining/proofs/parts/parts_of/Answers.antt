@@ -13,45 +13,25 @@ use Rattle.order.specs.declared.DefineLists.{DefineLists}
 use Rattle.order.specs.declared.Owners.{Owners}
 use Rattle.order.proofs.Recorded.{lists-said, owners-said, radios-said}
 use Rattle.defining.specs.Parts.{faults_in}
-use borrow.Author.Rules.{rules}
-use Rattle.defining.proofs.parts.parts_of.Statement.{statement}
-use Rattle.defining.proofs.parts.parts_of.Tie as tie
+use Rattle.defining.proofs.parts.parts_of.Goals as goal
 
-lists-of-requires : tie.Need-lists-of-requires
-lists-of-requires c κs = search rules
-
-groups-in-requires : tie.Need-groups-in-requires
-groups-in-requires c κs = search rules
-
-radios-in-requires : tie.Need-radios-in-requires
-radios-in-requires c κs = search rules
-
-owners-in-requires : tie.Need-owners-in-requires
-owners-in-requires c κs = search rules
-
-faults-of-requires : tie.Need-faults-of-requires
-faults-of-requires c κs = search rules
-
-returns : tie.Need-returns
+pub returns : goal.returns
 unfolding define_of
 returns c =
-    let o = c.before in
-    let g = o.before.before in
-    let l = g.before in
-    let a = l.before.args in
-    let lists = l.Lists-of.ensures in
+    let a = c.args in
+    let lists = c.lists_of-lists.ensures in
     let gs = lists-said (radio_number a.asker) a.place in
     let os = owners-said (radio_number a.asker) a.place in
     let rs = radios-said (radio_number a.asker) a.place in
-    let named = g.groups-in.ensures
+    let named = c.groups_in.ensures
     ∙ ap (λ (d : DefineLists). groups_as (fitting max_numbers (numbers_in a.asker.1 (list_of d.groups)))) lists
     ∙ ap (λ (n : Option Numbers). groups_as (fitting max_numbers (numbers_in a.asker.1 n))) gs in
-    let radios = o.before.radios-in.ensures
+    let radios = c.radios_in.ensures
     ∙ ap (λ (d : DefineLists). radios_as (fitting max_numbers (numbers_in a.asker.1 (list_of d.radios)))) lists
     ∙ ap (λ (n : Option Numbers). radios_as (fitting max_numbers (numbers_in a.asker.1 n))) rs in
     let given : Option Numbers → Owners = λ n. owners_as (rising (key (radio_number a.asker) ∷ fitting max_listed_owners (numbers_in a.asker.1 n))) in
-    let owners = o.owners-in.ensures ∙ ap (λ (d : DefineLists). given (list_of d.owners)) lists ∙ ap given os in
-    let faults = c.faults-of.ensures
+    let owners = c.owners_in.ensures ∙ ap (λ (d : DefineLists). given (list_of d.owners)) lists ∙ ap given os in
+    let faults = c.faults_of.ensures
     ∙ ap (λ (d : DefineLists). faults_in a.asker.1 (list_of d.groups) (list_of d.owners) (list_of d.radios)) lists
     ∙ (λ i. faults_in a.asker.1 (gs i) (os i) (rs i)) in
     λ i. record {
@@ -60,14 +40,3 @@ returns c =
       owners = owners i;
       faults = faults i;
     }
-
-pub parts-of-spec : {M : Type 1} → statement M
-parts-of-spec =
-    tie.close
-    (tie.spec
-    lists-of-requires
-    groups-in-requires
-    radios-in-requires
-    owners-in-requires
-    faults-of-requires
-    returns)
