@@ -11,7 +11,7 @@ use Rattle.layout.specs.declared.Record.{Record}
 use Rattle.rules.specs.Lists.{mem}
 use Rattle.rules.specs.Number.{Number, key, wide_number}
 use Rattle.rules.specs.Named.{numbers}
-use Rattle.rules.specs.Order.{define, delete, define_groups}
+use Rattle.rules.specs.Order.{define, define_groups}
 use Rattle.rules.specs.Recorded.{define_of}
 use Rattle.rules.specs.Ledger.{list}
 use Rattle.rules.specs.History.{History, ◌then◌, refusal_in, sent_in, list_in}

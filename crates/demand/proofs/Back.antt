@@ -20,7 +20,7 @@ use Rattle.rules.proofs.Ranges.{in-range}
 use Rattle.rules.proofs.Written.{written-form}
 use Rattle.order.specs.Walks.{onto}
 use Rattle.store.specs.Lists.{Plain}
-use Rattle.store.specs.Storage.{Contents, pair_of, pair_row, group_of, group_row, owners, counted, group_count, placing, ledger_of, laid}
+use Rattle.store.specs.Storage.{Contents, pair_of, pair_row, group_of, group_row, counted, group_count, placing, ledger_of, laid}
 use Rattle.order.specs.Row.{letters_of}
 use Rattle.store.specs.Form.{blank, tidy, roomy, within, is_written, Sound}
 use Rattle.order.proofs.Walks.{onto-length}

@@ -14,7 +14,6 @@ use Rattle.rules.specs.Order.{Step}
 use Rattle.rules.specs.Outgoing.{Outgoing}
 use Rattle.rules.specs.Parameters.{no_parameters}
 use Rattle.rules.specs.Refusals.{accepted}
-use Rattle.rules.specs.Replies as replies
 use Rattle.rules.specs.Ledger.{Ledger, list, show}
 use Rattle.rules.specs.Steps.{refused, sent}
 use Rattle.rules.specs.History.{History, radios_in, refusal_in, sent_in}
