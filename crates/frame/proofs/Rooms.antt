@@ -74,7 +74,8 @@ module _ (λs : Lfts 1) (kind : Kind) (values : Bor (List ℕ)) (told : Written)
     refused-as-told r e = w.0 ∙ told-refused kind values.now r (length out.now) start (sym l ∙ e)
 
 -- ---- `write` alone
-module _ (κs : Lfts 2) (kind : Kind) (values : Bor (List ℕ)) (out : MutBor (List ℕ)) (start : ℕ) (written : Written) (left : AtExit (ended_of 2 write-kinds.ps write-kinds.r) κs)
+module _ (κs : Lfts 2) (kind : Kind) (values : Bor (List ℕ)) (out : MutBor (List ℕ)) (start : ℕ) (written : Written)
+    (left : AtExit (ended_of 2 write-kinds.ps write-kinds.r) κs)
     (w : write.Post κs (kind, (values, (out, (start, tt)))) written left) where
   -- as many as its kind's largest length takes: 8 is never given
   pub room-for-kind : start + bytes_for (largest_length kind) ≤ length out.now → written ≡ Refused NoSpace → ⊥

@@ -17,9 +17,9 @@ pub record Coded (r : Row) (value laid : ℕ) : Type 0 where
   pub least : r.first ≤ laid
   pub most : laid < r.first + r.codes
 
-get_d_tail : (s : List ℕ) (k : ℕ) → get_or (tail s) k 0 ≡ get_or s (suc k) 0
-get_d_tail [] k = refl
-get_d_tail (x ∷ s) k = refl
+get_or-tail : (s : List ℕ) (k : ℕ) → get_or (tail s) k 0 ≡ get_or s (suc k) 0
+get_or-tail [] k = refl
+get_or-tail (x ∷ s) k = refl
 
 pub coded : (rows : List Row) (done s : List ℕ) → all good (lay rows done s) ≡ true → (k : ℕ) → k < length rows
     → present (done ++ take k (vals (lay rows done s))) (get_or rows k nothing).hang ≡ true
@@ -47,4 +47,4 @@ coded (r ∷ rows) done s g (suc k) h p =
     let i = and_r (good (record { row = there done r; val = v })) (all good rest) g in
     let q : present ((done ++ (v ∷ [])) ++ take k (vals rest)) (get_or rows k nothing).hang ≡ true
     = ap (λ (d : List ℕ). present d (get_or rows k nothing).hang) (append_assoc done (v ∷ []) (take k (vals rest))) ∙ p in
-    subst (λ (x : ℕ). Coded (get_or rows k nothing) x (get_or (vals rest) k 0)) (get_d_tail s k) (coded rows (done ++ (v ∷ [])) (tail s) i k (omega arith) q)
+    subst (λ (x : ℕ). Coded (get_or rows k nothing) x (get_or (vals rest) k 0)) (get_or-tail s k) (coded rows (done ++ (v ∷ [])) (tail s) i k (omega arith) q)

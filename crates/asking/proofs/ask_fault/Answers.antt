@@ -11,7 +11,11 @@ returns-in-Absent c =
     let x = contents a.head.now a.groups.now a.pairs.now in
     let w = c.written.ensures.1 c.if-not-written.false in
     let n = rw (c.wide_radio.ensures, c.wide_group.ensures) at c.if-bad.false in
-    record { judges = asked-owned x a.asker a.group w n _ _ c.group_key.ensures c.radio_key.ensures Absent _ c.in-Absent.is c.owned_by.ensures; sound = not_done _ }
+    record {
+      judges = asked-owned x a.asker a.group w n _ _ c.group_key.ensures c.radio_key.ensures
+          Absent _ c.in-Absent.is c.owned_by.ensures;
+      sound = not_done _;
+    }
 
 pub returns-in-Own : goal.returns-in-Own
 returns-in-Own c =
@@ -27,4 +31,8 @@ returns-in-Other c =
     let x = contents a.head.now a.groups.now a.pairs.now in
     let w = c.written.ensures.1 c.if-not-written.false in
     let n = rw (c.wide_radio.ensures, c.wide_group.ensures) at c.if-bad.false in
-    record { judges = asked-owned x a.asker a.group w n _ _ c.group_key.ensures c.radio_key.ensures Other _ c.in-Other.is c.owned_by.ensures; sound = not_done _ }
+    record {
+      judges = asked-owned x a.asker a.group w n _ _ c.group_key.ensures c.radio_key.ensures
+          Other _ c.in-Other.is c.owned_by.ensures;
+      sound = not_done _;
+    }

@@ -21,7 +21,14 @@ pub join-requires-2 : goal.join-requires-2
 join-requires-2 c =
     let a = c.args in
     let first : c.join.result ≤ 2 ^ 41 =
-    omega (arith, c.join.ensures, before-le a.first a.from a.width (omega arith) (omega arith), mod-lt a.value (pow_pos a.width), pow_mono {i = a.width} {j = 32} (omega arith)) in
+    omega (
+      arith,
+      c.join.ensures,
+      before-le a.first a.from a.width (omega arith) (omega arith),
+      mod-lt a.value
+          (pow_pos a.width),
+      pow_mono {i = a.width} {j = 32} (omega arith),
+    ) in
     (omega arith, omega (arith, mul-le-mul first (pow_mono {i = a.after} {j = 8} (omega arith))))
 
 pub returns : goal.returns

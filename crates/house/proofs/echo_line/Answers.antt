@@ -13,7 +13,8 @@ use Rattle.house.proofs.Texts.{sent}
 use Rattle.house.proofs.Replies.{reply-bad, reply-frame}
 use Rattle.house.proofs.echo_line.Goals as goal
 
-unpacking : {line before after : List ℕ} {heading : Line} {kind : Kind} {bits : ℕ} → heading ≡ Frame kind bits → Unpacked line before after heading → Unpacked line before after (Frame kind bits)
+unpacking : {line before after : List ℕ} {heading : Line} {kind : Kind} {bits : ℕ} → heading ≡ Frame kind bits
+    → Unpacked line before after heading → Unpacked line before after (Frame kind bits)
 unpacking e o = subst (Unpacked _ _ _) e o
 
 pub returns-in-Frame : goal.returns-in-Frame

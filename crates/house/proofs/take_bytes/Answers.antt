@@ -1,4 +1,5 @@
--- `house::take_bytes` meets its contract. The invariant: what the rest of the text still decides and stores is what the whole does. Each turn is one law of `Hex`.
+-- `house::take_bytes` meets its contract. The invariant: what the rest of the text still decides and stores is what the whole does.
+-- Each turn is one law of `Hex`.
 use mathlib.Core.Path.{◌∙◌}
 use Prim.Native.Nat.{◌+◌, ◌*◌, ◌<◌}
 use native.Mathlib.Omega.{arith}
@@ -16,6 +17,7 @@ loop-i-preserved c =
     let within : 2 * at.i + 1 < length text = omega arith in (
       search rules,
       seen_more text at.bytes at.i at.seen high.result low.result within high.ensures low.ensures ∙ at.invariant.1,
-      (λ small. stored_more text at.bytes at.i at.seen high.result low.result within high.ensures low.ensures small ∙ at.invariant.2 (seen-less at.seen high.result low.result small)),
+      (λ small. stored_more text at.bytes at.i at.seen high.result low.result within high.ensures low.ensures small
+          ∙ at.invariant.2 (seen-less at.seen high.result low.result small)),
       omega arith,
     )

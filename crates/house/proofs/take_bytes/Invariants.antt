@@ -1,4 +1,5 @@
--- `house::take_bytes` meets its contract. The invariant: what the rest of the text still decides and stores is what the whole does. Each turn is one law of `Hex`.
+-- `house::take_bytes` meets its contract. The invariant: what the rest of the text still decides and stores is what the whole does.
+-- Each turn is one law of `Hex`.
 use mathlib.Core.Path.{◌≡◌}
 use mathlib.Core.Bool.{◌&&◌}
 use Prim.Native.Nat.{◌-◌, ◌*◌, ◌<◌, ◌≤◌}

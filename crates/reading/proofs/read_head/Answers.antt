@@ -45,8 +45,10 @@ returns-else-action-action_type c =
 pub returns-in-Cut-second : goal.returns-in-Cut-second
 returns-in-Cut-second c =
     let x = first-seen c.args.frame.now c.args.bits c.requires c.first_two-head.result c.first_two-head.ensures (Value _) c.in-Value.is in
-    head-short c.args.kind c.args.frame.now c.args.bits c.requires x.0 (second-seen c.args.frame.now c.args.bits c.requires c.first_two-head.result c.first_two-head.ensures Cut c.in-Cut-second.is)
+    head-short c.args.kind c.args.frame.now c.args.bits c.requires x.0
+    (second-seen c.args.frame.now c.args.bits c.requires c.first_two-head.result c.first_two-head.ensures Cut c.in-Cut-second.is)
 
 pub returns-in-Cut : goal.returns-in-Cut
 returns-in-Cut c =
-    head-cut c.args.kind c.args.frame.now c.args.bits c.requires (first-seen c.args.frame.now c.args.bits c.requires c.first_two-head.result c.first_two-head.ensures Cut c.in-Cut.is)
+    head-cut c.args.kind c.args.frame.now c.args.bits c.requires
+    (first-seen c.args.frame.now c.args.bits c.requires c.first_two-head.result c.first_two-head.ensures Cut c.in-Cut.is)

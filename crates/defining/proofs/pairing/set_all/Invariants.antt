@@ -13,7 +13,8 @@ use Rattle.defining.proofs.pairing.set_all.Given as goal
 abbrev pub invariant-loop-j : goal.invariant-loop-j
 invariant-loop-j l =
     (l.j ≤ length (product (group_keys l.named) (radio_keys l.radios))) × (length l.pairs ≡ length l.initial.pairs)
-    × Putting pairs-linear (λ k. fresh l.state) pair_of pair_row (product (group_keys l.named) (radio_keys l.radios)) l.initial.pairs l.count l.j l.step.left l.step.by l.pairs
+    × Putting pairs-linear (λ k. fresh l.state) pair_of pair_row
+    (product (group_keys l.named) (radio_keys l.radios)) l.initial.pairs l.count l.j l.step.left l.step.by l.pairs
 
 abbrev pub decreases-loop-j : goal.decreases-loop-j
 decreases-loop-j l = l.j

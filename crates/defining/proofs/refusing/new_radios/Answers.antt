@@ -22,7 +22,8 @@ loop-i-preserved-then-not-stands c =
     let a = c.args in
     -- what is answered of the radio at i
     let told : c.stands.result ≡ present (find same_pair (pairs_of a.count a.pairs.now) (a.group.0, get_or (radio_keys a.radios) c.loop-i.i 0)) =
-    c.stands.ensures ∙ ap stands_at c.pair_place.ensures ∙ place_found pairs-linear (pairs_of a.count a.pairs.now) (a.group.0, c.radio_at-radio.result.0) c.requires.1
+    c.stands.ensures ∙ ap stands_at c.pair_place.ensures
+    ∙ place_found pairs-linear (pairs_of a.count a.pairs.now) (a.group.0, c.radio_at-radio.result.0) c.requires.1
     ∙ ap (λ (r : ℕ). present (find same_pair (pairs_of a.count a.pairs.now) (a.group.0, r))) c.radio_at-radio.ensures in
     let h : l.i < length (radio_keys a.radios) = omega (arith, c.radio_count-end.ensures) in
     let test : ℕ → Bool = λ (r : ℕ). not (present (find same_pair (pairs_of a.count a.pairs.now) (a.group.0, r))) in
@@ -34,7 +35,8 @@ loop-i-preserved c =
     let a = c.args in
     -- what is answered of the radio at i
     let told : c.stands.result ≡ present (find same_pair (pairs_of a.count a.pairs.now) (a.group.0, get_or (radio_keys a.radios) c.loop-i.i 0)) =
-    c.stands.ensures ∙ ap stands_at c.pair_place.ensures ∙ place_found pairs-linear (pairs_of a.count a.pairs.now) (a.group.0, c.radio_at-radio.result.0) c.requires.1
+    c.stands.ensures ∙ ap stands_at c.pair_place.ensures
+    ∙ place_found pairs-linear (pairs_of a.count a.pairs.now) (a.group.0, c.radio_at-radio.result.0) c.requires.1
     ∙ ap (λ (r : ℕ). present (find same_pair (pairs_of a.count a.pairs.now) (a.group.0, r))) c.radio_at-radio.ensures in
     let h : l.i < length (radio_keys a.radios) = omega (arith, c.radio_count-end.ensures) in
     let test : ℕ → Bool = λ (r : ℕ). not (present (find same_pair (pairs_of a.count a.pairs.now) (a.group.0, r))) in

@@ -10,7 +10,8 @@ use Rattle.deleting.proofs.deassigned.found_among.Given as goal
 
 abbrev pub invariant-loop-i : goal.invariant-loop-i
 invariant-loop-i l =
-    (l.i ≤ l.end) × (l.kept ≤ l.i) × (length l.out ≡ length l.initial.out) × (l.kept ≡ length (among (pairs_of l.count l.pairs) l.group.0 (take l.i (radio_keys l.radios))))
+    (l.i ≤ l.end) × (l.kept ≤ l.i) × (length l.out ≡ length l.initial.out)
+    × (l.kept ≡ length (among (pairs_of l.count l.pairs) l.group.0 (take l.i (radio_keys l.radios))))
     × (l.out ≡ onto (among (pairs_of l.count l.pairs) l.group.0 (take l.i (radio_keys l.radios))) l.initial.out)
 
 abbrev pub decreases-loop-i : goal.decreases-loop-i

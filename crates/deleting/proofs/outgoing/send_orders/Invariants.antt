@@ -14,7 +14,8 @@ abbrev pub invariant-loop-i : goal.invariant-loop-i
 invariant-loop-i l =
     (l.i ≤ l.end) × (length l.out ≡ length l.initial.out)
     × (l.at ≡ length (deassign_orders l.deassign l.listed (radio_keys l.radios) (pairs_of l.count l.pairs) (take l.i (group_keys l.named))))
-    × (l.out ≡ onto (map order_row (deassign_orders l.deassign l.listed (radio_keys l.radios) (pairs_of l.count l.pairs) (take l.i (group_keys l.named)))) l.initial.out)
+    × (l.out ≡ onto (map order_row
+    (deassign_orders l.deassign l.listed (radio_keys l.radios) (pairs_of l.count l.pairs) (take l.i (group_keys l.named)))) l.initial.out)
 
 abbrev pub decreases-loop-i : goal.decreases-loop-i
 decreases-loop-i l = l.end - l.i

@@ -20,7 +20,8 @@ many first last = consecutive-length first (span first last)
 
 pub returns-then-most-behind : goal.returns-then-most-behind
 returns-then-most-behind c =
-    let long : c.args.most < length (all c.args.first c.args.last) = omega (arith, many c.args.first c.args.last, c.if-most-behind.true, c.if-last-first.false) in
+    let long : c.args.most < length (all c.args.first c.args.last) = omega
+    (arith, many c.args.first c.args.last, c.if-most-behind.true, c.if-last-first.false) in
     c.no_keys-then-most-behind.ensures ∙ ap keys_as (sym (fitting-none c.args.most (all c.args.first c.args.last) long))
 
 pub returns : goal.returns

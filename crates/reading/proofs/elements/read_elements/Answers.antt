@@ -34,7 +34,12 @@ pub overflow_add-place : goal.overflow_add-place
 overflow_add-place c =
     let own = owns _ c.first_line-k.ensures c.end_line-end.ensures in
     let g = c.loop-k.invariant c.args.kind own in
-    omega (arith, turn-room own g c.loop-k-test.true c.line-element.ensures, c.places_of-place.ensures, turn-span own g c.loop-k-test.true c.line-element.ensures)
+    omega (
+      arith,
+      turn-room own g c.loop-k-test.true c.line-element.ensures,
+      c.places_of-place.ensures,
+      turn-span own g c.loop-k-test.true c.line-element.ensures,
+    )
 
 pub loop-k-preserved : goal.loop-k-preserved
 loop-k-preserved c =
