@@ -4,7 +4,9 @@
 ghost use Rattle.std.specs.Prelude.{◌≡◌};
 ghost use Rattle.refusal.specs.Number.{number_of};
 
-#[derive(Clone, Copy)]
+use std::fmt;
+
+#[derive(Clone, Copy, Debug, PartialEq, Eq)]
 pub enum Refusal {
     // The bits end inside an element, or the bit count exceeds the lent bits.
     EndsInside,
@@ -51,30 +53,39 @@ pub enum Refusal {
 }
 
 // The number of a refusal.
-pub fn number(r: Refusal) -> u8
-    ensures { result ≡ number_of r }
-{
-    match r {
-        Refusal::EndsInside => 1,
-        Refusal::BitsRemain => 2,
-        Refusal::WrongKind => 3,
-        Refusal::Reserved => 4,
-        Refusal::NoGroup => 5,
-        Refusal::NothingFollows => 6,
-        Refusal::TypeThree => 7,
-        Refusal::NoSpace => 8,
-        Refusal::BadLine => 9,
-        Refusal::BadOrder => 10,
-        Refusal::FormNotTaken => 11,
-        Refusal::NoSuchGroup => 12,
-        Refusal::NotOwner => 13,
-        Refusal::NotOpen => 14,
-        Refusal::NothingToDo => 15,
-        Refusal::Full => 16,
-        Refusal::NoRoom => 17,
-        Refusal::NotWritten => 18,
-        Refusal::BadRange => 19,
-        Refusal::TooManyNumbers => 20,
-        Refusal::TooManyOwners => 21,
+impl From<Refusal> for u8 {
+    ghost from_gives = { λ refusal result. result ≡ number_of refusal };
+
+    fn from(refusal: Refusal) -> u8 {
+        match refusal {
+            Refusal::EndsInside => 1,
+            Refusal::BitsRemain => 2,
+            Refusal::WrongKind => 3,
+            Refusal::Reserved => 4,
+            Refusal::NoGroup => 5,
+            Refusal::NothingFollows => 6,
+            Refusal::TypeThree => 7,
+            Refusal::NoSpace => 8,
+            Refusal::BadLine => 9,
+            Refusal::BadOrder => 10,
+            Refusal::FormNotTaken => 11,
+            Refusal::NoSuchGroup => 12,
+            Refusal::NotOwner => 13,
+            Refusal::NotOpen => 14,
+            Refusal::NothingToDo => 15,
+            Refusal::Full => 16,
+            Refusal::NoRoom => 17,
+            Refusal::NotWritten => 18,
+            Refusal::BadRange => 19,
+            Refusal::TooManyNumbers => 20,
+            Refusal::TooManyOwners => 21,
+        }
+    }
+}
+
+// A refusal is shown by its number.
+impl fmt::Display for Refusal {
+    fn fmt<W: fmt::Write>(&self, f: &mut fmt::Formatter<W>) -> fmt::Result {
+        write!(f, "{}", u8::from(*self))
     }
 }
