@@ -15,7 +15,7 @@ use lib.Pow.{pow_pos, pow_mono, pow-add, shr-shr, split, high, low, field, mod-m
 use lib.Seq.{length-take-le, take-nil, drop-nil, take-append-add, drop-append-add, take-append-le, drop-append-le, take_at, drop_at}
 use Rattle.bits.specs.Bits.{odd, bit, digits, value, bits_of, bytes_for, spare, pack, bytes_of, Bytes}
 use Rattle.bits.specs.Field.{field_at, put_at}
-use Rattle.bits.specs.declared.Taken.TheVariants.{Value, Cut}
+use Rattle.std.specs.Prelude.{Some, None}
 
 -- ---- numbers and their digits
 
@@ -228,20 +228,20 @@ or-true false = refl
 
 -- the cases of `field_at`
 module _ (frame : List ℕ) (bits at width : ℕ) where
-  pub field-short : 8 * length frame < bits → field_at frame bits at width ≡ Cut
+  pub field-short : 8 * length frame < bits → field_at frame bits at width ≡ None
   unfolding field_at
   field-short h = rw (lt-ltb (8 * length frame) bits h)
 
-  pub field_cut : bits < at + width → field_at frame bits at width ≡ Cut
+  pub field_cut : bits < at + width → field_at frame bits at width ≡ None
   unfolding field_at
   field_cut h = rw (lt-ltb bits (at + width) h, or-true (ltb (8 * length frame) bits))
 
-  pub field-wide : 32 < width → field_at frame bits at width ≡ Cut
+  pub field-wide : 32 < width → field_at frame bits at width ≡ None
   unfolding field_at
   field-wide h = rw (lt-ltb 32 width h, or-true (ltb (8 * length frame) bits || ltb bits (at + width)))
 
   pub field-value : bits ≤ 8 * length frame → at + width ≤ bits → width ≤ 32
-      → field_at frame bits at width ≡ Value (value (take width (drop at (take bits (bits_of frame)))))
+      → field_at frame bits at width ≡ Some (value (take width (drop at (take bits (bits_of frame)))))
   unfolding field_at
   field-value h k l = rw (le-ltb (8 * length frame) bits h, le-ltb bits (at + width) k, le-ltb 32 width l)
 

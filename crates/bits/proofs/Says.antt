@@ -9,12 +9,12 @@ use lib.ListN.{length, take, drop}
 use Rattle.bits.specs.Bits.{value, bits_of}
 use Rattle.bits.specs.Field.{field_at}
 use Rattle.bits.specs.Says.{taken_says}
-use Rattle.bits.specs.declared.Taken.{Taken}
+use Rattle.std.specs.Prelude.{Option}
 use Rattle.refusal.specs.declared.Refusal.TheVariants.{EndsInside}
 use Rattle.refusal.specs.Says.{accepted, refused_with}
 
 -- what either of two answers says
-says-either : (t : Bool) (a b : Taken) → taken_says (cond t a b) ≡ cond t (taken_says a) (taken_says b)
+says-either : (t : Bool) (a b : Option ℕ) → taken_says (cond t a b) ≡ cond t (taken_says a) (taken_says b)
 says-either true a b = refl
 says-either false a b = refl
 

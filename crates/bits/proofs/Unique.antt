@@ -16,9 +16,9 @@ use types.Logic.{Logic}
 use prog.Memory.{Memory}
 use prog.Routine.{Routine}
 use Rattle.bits.specs.declared.Reader.{Reader}
-use Rattle.bits.specs.contracts.new as new
-use Rattle.bits.specs.contracts.moved as moved
-use Rattle.bits.specs.contracts.take as take
+use Rattle.bits.specs.contracts.Reader.new as new
+use Rattle.bits.specs.contracts.Reader.moved as moved
+use Rattle.bits.specs.contracts.Reader.take as take
 use Rattle.bits.proofs.field_from.Kinds as field-from-kinds
 use Rattle.bits.proofs.field_from.Reads as field-from
 use Rattle.bits.proofs.first_two.Kinds as first-two-kinds

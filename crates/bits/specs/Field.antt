@@ -1,22 +1,19 @@
 -- A field, a run of at most 32 bits: what is read of it in a frame, and what bytes hold once a number is put into it.
 -- Assumes nothing.
-use Rattle.std.specs.Prelude.{ℕ, ◌+◌, ◌*◌, cond, ◌||◌, List, ◌++◌, ltb, length, take, drop}
+use Rattle.std.specs.Prelude.{ℕ, ◌+◌, ◌*◌, cond, ◌||◌, List, ◌++◌, ltb, length, take, drop, Option, Some, None}
 use Rattle.bits.specs.Bits.{digits, value, bits_of, bytes_of}
-use Rattle.bits.specs.declared.Taken.{Taken}
-use Rattle.bits.specs.declared.Taken.TheVariants.{Value, Cut}
-use Rattle.bits.specs.declared.Two.{Two}
 
 -- the `width` bits from `at` on of a frame's first `bits` bits, as a number
--- Cut where the bit count exceeds the lent bits, the field ends past the bit count, or it is wider than 32 bits
-unfoldable pub field_at : List ℕ → ℕ → ℕ → ℕ → Taken
+-- none where the bit count exceeds the lent bits, the field ends past the bit count, or it is wider than 32 bits
+unfoldable pub field_at : List ℕ → ℕ → ℕ → ℕ → Option ℕ
 field_at frame bits at width =
     cond (ltb (8 * length frame) bits || ltb bits (at + width) || ltb 32 width)
-    Cut
-    (Value (value (take width (drop at (take bits (bits_of frame))))))
+    None
+    (Some (value (take width (drop at (take bits (bits_of frame))))))
 
 -- the field of `first` bits at a frame's first bit, and behind it the field of `second` bits
-abbrev pub first_two : List ℕ → ℕ → ℕ → ℕ → Two
-first_two frame bits first second = record { first = field_at frame bits 0 first; second = field_at frame bits first second }
+abbrev pub first_two : List ℕ → ℕ → ℕ → ℕ → Option ℕ × Option ℕ
+first_two frame bits first second = (field_at frame bits 0 first, field_at frame bits first second)
 
 -- bytes with the lowest `width` bits of v in the bits from `at` on
 -- as they were where the field ends past them, or is wider than 32 bits

@@ -6,13 +6,6 @@ ghost use Rattle.std.specs.Prelude.{◌≡◌, ◌+◌, ◌*◌, ◌%◌, ◌^�
 ghost use Rattle.bits.specs.Field.{field_at, first_two, put_at};
 ghost use Rattle.bits.specs.Window.{value_at, bytes_at, joined_bits, laid};
 
-// What taking a field finds: its number, or that the bits end inside it (or it is wider than 32 bits).
-#[derive(Clone, Copy)]
-pub enum Taken {
-    Value(u32),
-    Cut,
-}
-
 // The lowest `n` bits of `x`.
 fn low(x: u64, n: usize) -> u64
     requires { n ≤ 32 }
@@ -74,27 +67,27 @@ fn field_value(frame: &[u8], at: usize, width: usize) -> u32
     low(whole >> (8 * count - (from + width)), width) as u32
 }
 
-// The field of `width` bits at `at` in the first `bits` bits of `frame`.
-fn field_at(frame: &[u8], bits: usize, at: usize, width: usize) -> Taken
+// The field of `width` bits at `at` in the first `bits` bits of `frame`; none where the bits end inside it, or it is wider than 32 bits.
+fn field_at(frame: &[u8], bits: usize, at: usize, width: usize) -> Option<u32>
     ensures { result ≡ field_at frame.now bits at width }
 {
     if frame.len() < bits / 8 + (bits % 8 + 7) / 8 {
-        return Taken::Cut;
+        return None;
     }
     if bits < at {
-        return Taken::Cut;
+        return None;
     }
     if bits - at < width {
-        return Taken::Cut;
+        return None;
     }
     if 32 < width {
-        return Taken::Cut;
+        return None;
     }
-    Taken::Value(field_value(frame, at, width))
+    Some(field_value(frame, at, width))
 }
 
 // A frame, its bit count and the place of the next field, kept together.
-// Its functions are thin: the work is `field_at`'s, on the slice and the numbers.
+// Its methods are thin: the work is `field_at`'s, on the slice and the numbers.
 #[derive(Clone, Copy)]
 pub struct Reader<'a> {
     pub frame: &'a [u8],
@@ -102,56 +95,47 @@ pub struct Reader<'a> {
     pub at: usize,
 }
 
-// A reader at the first bit of a frame.
-pub fn new<'a>(frame: &'a [u8], bits: usize) -> Reader<'a>
-    ensures { (result.frame ≡ frame.entry) × (result.bits ≡ bits) × (result.at ≡ 0) }
-{
-    Reader { frame, bits, at: 0 }
-}
-
-// The reader at another place of its frame.
-pub fn moved<'a>(r: Reader<'a>, at: usize) -> Reader<'a>
-    ensures { (result.frame ≡ r.entry.frame) × (result.bits ≡ r.entry.bits) × (result.at ≡ at) }
-{
-    Reader {
-        frame: r.frame,
-        bits: r.bits,
-        at,
+impl<'a> Reader<'a> {
+    // A reader at the first bit of a frame.
+    pub fn new(frame: &'a [u8], bits: usize) -> Self
+        ensures { (result.frame ≡ frame.entry) × (result.bits ≡ bits) × (result.at ≡ 0) }
+    {
+        Reader { frame, bits, at: 0 }
     }
-}
 
-// The field of `width` bits at the reader's place.
-pub fn take<'a>(r: Reader<'a>, width: usize) -> Taken
-    ensures { result ≡ field_at r.entry.frame.now r.entry.bits r.entry.at width }
-{
-    field_at(r.frame, r.bits, r.at, width)
+    // The reader at another place of its frame.
+    pub fn moved(self, at: usize) -> Self
+        ensures { (result.frame ≡ self.entry.frame) × (result.bits ≡ self.entry.bits) × (result.at ≡ at) }
+    {
+        Reader { at, ..self }
+    }
+
+    // The field of `width` bits at the reader's place.
+    pub fn take(self, width: usize) -> Option<u32>
+        ensures { result ≡ field_at self.entry.frame.now self.entry.bits self.entry.at width }
+    {
+        field_at(self.frame, self.bits, self.at, width)
+    }
 }
 
 // The field of `width` bits at `at` of a frame, through a reader. Whoever calls it needs no reader of their own.
-pub fn field_from(frame: &[u8], bits: usize, at: usize, width: usize) -> Taken
+pub fn field_from(frame: &[u8], bits: usize, at: usize, width: usize) -> Option<u32>
     ensures { result ≡ field_at frame.now bits at width }
 {
-    take(moved(new(frame, bits), at), width)
+    Reader::new(frame, bits).moved(at).take(width)
 }
 
-// Two fields, one behind the other.
-#[derive(Clone, Copy)]
-pub struct Two {
-    pub first: Taken,
-    pub second: Taken,
-}
-
-// The two fields at the first bits of a frame, through one reader, which is taken from, moved and taken from again.
-pub fn first_two(frame: &[u8], bits: usize, first: usize, second: usize) -> Two
+// The two fields at the first bits of a frame, one behind the other, through one reader, which is taken from, moved and taken from again.
+pub fn first_two(
+    frame: &[u8],
+    bits: usize,
+    first: usize,
+    second: usize,
+) -> (Option<u32>, Option<u32>)
     ensures { result ≡ first_two frame.now bits first second }
 {
-    let reader = new(frame, bits);
-    let one = take(reader, first);
-    let two = take(moved(reader, first), second);
-    Two {
-        first: one,
-        second: two,
-    }
+    let reader = Reader::new(frame, bits);
+    (reader.take(first), reader.moved(first).take(second))
 }
 
 // `high`, and the lowest `n` bits of `x` after it, as one number.

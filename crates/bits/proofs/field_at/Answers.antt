@@ -4,7 +4,7 @@ use mathlib.Core.Path.{ap, sym, ◌∙◌}
 use Prim.Native.Nat.{◌+◌, ◌≤◌}
 use native.Mathlib.Omega.{arith}
 use Rattle.bits.specs.Bits.{bits_of, value}
-use Rattle.bits.specs.declared.Taken.TheVariants.{Value}
+use Rattle.std.specs.Prelude.{Some}
 use Rattle.bits.proofs.Laws.{field-short, field_cut, field-wide, field-value}
 use Rattle.bits.proofs.Windows.{part-of-take}
 use Rattle.bits.proofs.field_at.Goals as goal
@@ -25,5 +25,5 @@ pub returns : goal.returns
 returns c =
     let a = c.args in
     let inside : a.at + a.width ≤ a.bits = omega arith in
-    ap Value (c.field_value.ensures ∙ ap value (sym (part-of-take a.at a.width a.bits (bits_of a.frame.now) inside)))
+    ap Some (c.field_value.ensures ∙ ap value (sym (part-of-take a.at a.width a.bits (bits_of a.frame.now) inside)))
     ∙ sym (field-value a.frame.now a.bits a.at a.width (omega arith) inside (omega arith))
