@@ -6,6 +6,7 @@ use mathlib.Core.Option.{Option, none, some}
 use Prim.Native.Nat.{ℕ, suc, ◌≤◌}
 use native.Mathlib.Omega.{arith}
 use lib.ListN.{length, get_or, set}
+use Rattle.std.specs.Prelude.{Result, Ok, Err}
 use Rattle.refusal.specs.declared.Refusal.{Refusal}
 use Rattle.refusal.specs.declared.Refusal.TheVariants.{NotWritten}
 use Rattle.rules.specs.Entries.{alter}
@@ -20,34 +21,32 @@ use Rattle.order.specs.Walks.{onto}
 use Rattle.store.specs.Storage.{Contents, group_of, group_row, pair_of, pair_row, group_count, pair_count, placing, ledger_of, laid}
 use Rattle.store.specs.Form.{is_written, Sound}
 use Rattle.store.proofs.Rows.{length-items, lay-plain}
-use Rattle.replies.specs.Orders.{reply_of, verdict, contents_after}
-use Rattle.replies.specs.Sending.{sent_on, sent_reply}
-use Rattle.replies.specs.declared.Sent.TheVariants as sends
-use Rattle.replies.specs.declared.Reply.TheVariants.{Done, Refused}
+use Rattle.replies.specs.Orders.{answered, reply_of, verdict, contents_after}
+use Rattle.replies.specs.Sending.{sent_on}
 
 -- ---- the reply, and what is left ----
 
 module _ (c : Contents) (s : Step) where
-  pub not_written : is_written c ≡ false → (Refused NotWritten ≡ reply_of (verdict c s)) × (c ≡ contents_after c s)
+  pub not_written : is_written c ≡ false → (Err NotWritten ≡ reply_of (verdict c s)) × (c ≡ contents_after c s)
   not_written e = rw e (refl, refl)
 
-  pub refused-stays : (r : Refusal) → Refused r ≡ reply_of (verdict c s) → c ≡ contents_after c s
+  pub refused-stays : (r : Refusal) → Err r ≡ reply_of (verdict c s) → c ≡ contents_after c s
   refused-stays r = go (verdict c s)
     where
-      go : (o : Option Refusal) → Refused r ≡ reply_of o → c ≡ cond (accepted o) (laid (step placing (ledger_of c) s) c) c
+      go : (o : Option Refusal) → Err r ≡ reply_of o → c ≡ cond (accepted o) (laid (step placing (ledger_of c) s) c) c
       go none e = let z : ◌≡◌ {A = ℕ} 0 1 = cc in absurd (omega arith)
       go (some x) e = refl
 
   -- the order is in the form and not refused
-  pub taken_step : Done ≡ reply_of (verdict c s) → (is_written c ≡ true) × (refused placing (ledger_of c) s ≡ none)
+  pub taken_step : Ok tt ≡ reply_of (verdict c s) → (is_written c ≡ true) × (refused placing (ledger_of c) s ≡ none)
   taken_step = go (is_written c) refl (refused placing (ledger_of c) s)
     where
-      go : (b : Bool) → is_written c ≡ b → (o : Option Refusal) → Done ≡ reply_of (cond b o (some NotWritten)) → (b ≡ true) × (o ≡ none)
+      go : (b : Bool) → is_written c ≡ b → (o : Option Refusal) → Ok tt ≡ reply_of (cond b o (some NotWritten)) → (b ≡ true) × (o ≡ none)
       go true q none e = (refl, refl)
       go true q (some r) e = let z : ◌≡◌ {A = ℕ} 0 1 = cc in absurd (omega arith)
       go false q o e = let z : ◌≡◌ {A = ℕ} 0 1 = cc in absurd (omega arith)
 
-  pub taken-after : is_written c ≡ true → refused placing (ledger_of c) s ≡ none → (Done ≡ reply_of (verdict c s))
+  pub taken-after : is_written c ≡ true → refused placing (ledger_of c) s ≡ none → (Ok tt ≡ reply_of (verdict c s))
       × (contents_after c s ≡ laid (apply placing (ledger_of c) (effect (view (ledger_of c)) s)) c)
   taken-after w e = rw (w, e) (refl, refl)
 
@@ -63,25 +62,25 @@ first_some (t ∷ a) b r e = go t.1 (first_some a b r) e
     go false h e = h e
 
 -- a reply tells the refusal
-pub reply-none : (o : Option Refusal) → Done ≡ reply_of o → o ≡ none
+pub reply-none : (o : Option Refusal) → Ok tt ≡ reply_of o → o ≡ none
 reply-none none e = refl
 reply-none (some r) e = let z : ◌≡◌ {A = ℕ} 0 1 = cc in absurd (omega arith)
 
-pub reply-some : (o : Option Refusal) (r : Refusal) → Refused r ≡ reply_of o → o ≡ some r
+pub reply-some : (o : Option Refusal) (r : Refusal) → Err r ≡ reply_of o → o ≡ some r
 reply-some none r e = let z : ◌≡◌ {A = ℕ} 0 1 = cc in absurd (omega arith)
 reply-some (some x) r e = let q : x ≡ r = cc in ap some q
 
 -- a refusal is no acceptance
-pub not_done : {P : Type 0} (r : Refusal) → Refused r ≡ Done → P
+pub not_done : {P A : Type 0} {answer : A} (r : Refusal) → ◌≡◌ {A = Result A Refusal} (Err r) (Ok answer) → P
 not_done r e = let z : ◌≡◌ {A = ℕ} 0 1 = cc in absurd (omega arith)
 
 -- an order whose tests are those of its form, then others: the form's tell, and where none of them holds the others do
 module _ (c : Contents) (w : Sound c) (s : Step) (forms stands : List (Refusal × Bool))
     (t : tests (view (ledger_of c)) (tally placing (ledger_of c) (effect (view (ledger_of c)) s)) s ≡ forms ++ stands) where
-  pub form-refuses : (r : Refusal) → Refused r ≡ reply_of (first forms) → Refused r ≡ reply_of (verdict c s)
+  pub form-refuses : (r : Refusal) → Err r ≡ reply_of (first forms) → Err r ≡ reply_of (verdict c s)
   form-refuses r e = rw w.form (ap reply_of (sym (ap first t ∙ first_some forms stands r (reply-some (first forms) r e))))
 
-  pub stand-tells : Done ≡ reply_of (first forms) → reply_of (first stands) ≡ reply_of (verdict c s)
+  pub stand-tells : Ok tt ≡ reply_of (first forms) → reply_of (first stands) ≡ reply_of (verdict c s)
   stand-tells e = rw w.form (ap reply_of (sym (ap first t ∙ first-none forms stands (reply-none (first forms) e))))
 
 -- ---- the contents ----
@@ -121,16 +120,16 @@ module _ (c : Contents) (w : Sound c) where
 -- ---- an order that sends ----
 
 module _ (c : Contents) (s : Step) where
-  pub sent-refused : (r : Refusal) → Refused r ≡ reply_of (verdict c s) → (sends.Refused r ≡ sent_reply (verdict c s) (length (sent_on c s)))
+  pub sent-refused : (r : Refusal) → Err r ≡ reply_of (verdict c s) → (Err r ≡ answered (verdict c s) (length (sent_on c s)))
       × (c ≡ contents_after c s) × (sent_on c s ≡ [])
   sent-refused r = go (verdict c s)
     where
-      go : (o : Option Refusal) → Refused r ≡ reply_of o → (sends.Refused r ≡ sent_reply o (length (cond (accepted o) (sent placing (ledger_of c) s) [])))
+      go : (o : Option Refusal) → Err r ≡ reply_of o → (Err r ≡ answered o (length (cond (accepted o) (sent placing (ledger_of c) s) [])))
           × (c ≡ cond (accepted o) (laid (step placing (ledger_of c) s) c) c) × (cond (accepted o) (sent placing (ledger_of c) s) [] ≡ [])
       go none e = let z : ◌≡◌ {A = ℕ} 0 1 = cc in absurd (omega arith)
-      go (some x) e = let q : r ≡ x = cc in (ap sends.Refused q, refl, refl)
+      go (some x) e = let q : r ≡ x = cc in (ap Err q, refl, refl)
 
   pub sent-taken : is_written c ≡ true → refused placing (ledger_of c) s ≡ none → (n : ℕ) (os : List Outgoing)
       → outgoing (view (ledger_of c)) (tally placing (ledger_of c) (effect (view (ledger_of c)) s)) s ≡ os → n ≡ length os
-      → (sends.Orders n ≡ sent_reply (verdict c s) (length (sent_on c s))) × (sent_on c s ≡ os)
-  sent-taken w e n os q m = rw (w, e) (ap sends.Orders (m ∙ ap length (sym q)), q)
+      → (Ok n ≡ answered (verdict c s) (length (sent_on c s))) × (sent_on c s ≡ os)
+  sent-taken w e n os q m = rw (w, e) (ap Ok (m ∙ ap length (sym q)), q)

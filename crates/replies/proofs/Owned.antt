@@ -5,6 +5,7 @@ use mathlib.Core.List.{List, [], ◌∷◌}
 use mathlib.Core.Option.{Option, none, some}
 use Prim.Native.Nat.{ℕ}
 use lib.Dec.{eqb, ltb}
+use Rattle.std.specs.Prelude.{Result, Ok, Err, ⊤}
 use Rattle.refusal.specs.declared.Refusal.{Refusal}
 use Rattle.refusal.specs.declared.Refusal.TheVariants.{NoSuchGroup, NotOwner}
 use Rattle.rules.specs.Lists.{mem, present}
@@ -21,13 +22,11 @@ use Rattle.store.specs.declared.Owned.TheVariants.{Absent, Own, Other}
 use Rattle.store.proofs.FormLaws.{groups-rise}
 use Rattle.store.proofs.PlaceLaws.{looked-found}
 use Rattle.replies.specs.Orders.{reply_of}
-use Rattle.replies.specs.declared.Reply.{Reply}
-use Rattle.replies.specs.declared.Reply.TheVariants.{Done, Refused}
 
-abbrev pub owned_reply : Owned → Reply
-owned_reply Absent = Refused NoSuchGroup
-owned_reply Own = Done
-owned_reply Other = Refused NotOwner
+abbrev pub owned_reply : Owned → Result ⊤ Refusal
+owned_reply Absent = Err NoSuchGroup
+owned_reply Own = Ok tt
+owned_reply Other = Err NotOwner
 
 -- the tests that tell it
 abbrev pub owned_tests : Contents → ℕ → ℕ → List (Refusal × Bool)

@@ -1,5 +1,5 @@
 -- What an order does to lent contents: the refusal, which is 18 before all others, and the contents after it.
-use Rattle.std.specs.Prelude.{◌≡◌, cond}
+use Rattle.std.specs.Prelude.{◌≡◌, cond, Result, Ok, Err, ⊤}
 use Rattle.std.proofs.Math.Option.{Option, none, some}
 use Rattle.refusal.specs.declared.Refusal.{Refusal}
 use Rattle.refusal.specs.declared.Refusal.TheVariants.{NotWritten}
@@ -12,12 +12,14 @@ use Rattle.order.specs.declared.Gtsi.{Gtsi}
 use Rattle.order.specs.declared.Itsi.{Itsi}
 use Rattle.store.specs.Storage.{Contents, placing, ledger_of, laid}
 use Rattle.store.specs.Form.{roomy, is_written, Sound}
-use Rattle.replies.specs.declared.Reply.{Reply}
-use Rattle.replies.specs.declared.Reply.TheVariants.{Done, Refused}
 
-abbrev pub reply_of : Option Refusal → Reply
-reply_of none = Done
-reply_of (some r) = Refused r
+-- what is answered: the refusal, or this where there is none
+abbrev pub answered : {A : Type 0} → Option Refusal → A → Result A Refusal
+answered none answer = Ok answer
+answered (some r) answer = Err r
+
+abbrev pub reply_of : Option Refusal → Result ⊤ Refusal
+reply_of refusal = answered refusal tt
 
 -- contents that are not in the written form are refused with 18
 abbrev pub judged : Contents → Option Refusal → Option Refusal
@@ -33,7 +35,7 @@ contents_after c s = cond (accepted (verdict c s)) (laid (step placing (ledger_o
 -- ---- what a call is held to ----
 
 -- an order that only replies
-pub record Replies (s : Step) (before after : Contents) (reply : Reply) : Type 0 where
+pub record Replies (s : Step) (before after : Contents) (reply : Result ⊤ Refusal) : Type 0 where
   pub replies : reply ≡ reply_of (verdict before s)
   pub leaves : after ≡ contents_after before s
 
@@ -44,16 +46,16 @@ empty_verdict c = cond (roomy c) none (some NotWritten)
 abbrev pub emptied : Contents → Contents
 emptied c = cond (roomy c) (laid empty c) c
 
-pub record Begins (before after : Contents) (reply : Reply) : Type 0 where
+pub record Begins (before after : Contents) (reply : Result ⊤ Refusal) : Type 0 where
   pub replies : reply ≡ reply_of (empty_verdict before)
   pub leaves : after ≡ emptied before
 
 -- an order's judgement before anything is changed; what is taken is in the written form
-pub record Judges (on : Contents) (s : Step) (reply : Reply) : Type 0 where
+pub record Judges (on : Contents) (s : Step) (reply : Result ⊤ Refusal) : Type 0 where
   pub judges : reply ≡ reply_of (verdict on s)
-  pub sound : reply ≡ Done → Sound on
+  pub sound : reply ≡ Ok tt → Sound on
 
 -- the judgement of a list or a show, room apart
-pub record JudgesAsker (on : Contents) (asker : Itsi) (group : Gtsi) (reply : Reply) : Type 0 where
+pub record JudgesAsker (on : Contents) (asker : Itsi) (group : Gtsi) (reply : Result ⊤ Refusal) : Type 0 where
   pub judges : reply ≡ reply_of (judged on (show_refusal (view (ledger_of on)) (radio_number asker) (group_number group)))
-  pub sound : reply ≡ Done → Sound on
+  pub sound : reply ≡ Ok tt → Sound on

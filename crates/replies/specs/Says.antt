@@ -1,24 +1,22 @@
 -- Document 01's number, 0 where it is accepted, and the values that each answer says.
-use Rattle.std.specs.Prelude.{[], ◌∷◌}
+use Rattle.std.specs.Prelude.{ℕ, List, [], ◌∷◌, Result, Ok, Err, ⊤}
+use Rattle.refusal.specs.declared.Refusal.{Refusal}
 use Rattle.refusal.specs.Says.{Says, accepted, refused_with}
-use Rattle.replies.specs.declared.Reply.{Reply}
-use Rattle.replies.specs.declared.Reply.TheVariants as reply
-use Rattle.replies.specs.declared.Sent.{Sent}
-use Rattle.replies.specs.declared.Sent.TheVariants as sent
-use Rattle.replies.specs.declared.Members.{Members}
-use Rattle.replies.specs.declared.Members.TheVariants as members
+use Rattle.replies.specs.declared.Shown.{Shown}
 
--- an order's, and a show's beside what it shows
-abbrev pub reply_says : Reply → Says
-reply_says reply.Done = accepted []
-reply_says (reply.Refused r) = refused_with r
+-- the refusal's number alone, or 0 and the values of what is answered
+abbrev pub answer_says : {A : Type 0} → (A → List ℕ) → Result A Refusal → Says
+answer_says values (Ok answer) = accepted (values answer)
+answer_says values (Err r) = refused_with r
 
--- how many orders go out
-abbrev pub sent_says : Sent → Says
-sent_says (sent.Orders n) = accepted (n ∷ [])
-sent_says (sent.Refused r) = refused_with r
+-- an order's
+abbrev pub reply_says : Result ⊤ Refusal → Says
+reply_says = answer_says (λ done. [])
 
--- how many radios are listed
-abbrev pub members_says : Members → Says
-members_says (members.Radios n) = accepted (n ∷ [])
-members_says (members.Refused r) = refused_with r
+-- how many orders go out, or how many radios are listed
+abbrev pub count_says : Result ℕ Refusal → Says
+count_says = answer_says (λ n. n ∷ [])
+
+-- a show's, beside what it shows
+abbrev pub show_says : Result Shown Refusal → Says
+show_says = answer_says (λ shown. [])
