@@ -9,18 +9,14 @@ use borrow.Author.Tests.{le-ltb, ltb-true, ltb-false, leb-true, le-leb, lt-leb, 
 use lib.Dec.{T, ltb, eqb, leb, ltb→lt}
 use lib.ListN.{length, take, drop, replicate, length-append, length-drop}
 use lib.Seq.{take-append_seam, take_at, drop_at, drop-drop, length-take-le}
+use Rattle.std.specs.Prelude.{Result, Ok, Err, ⊤}
+use Rattle.refusal.specs.declared.Refusal.{Refusal}
 use Rattle.refusal.specs.declared.Refusal.TheVariants.{EndsInside, WrongKind, Reserved, NoGroup, NoSpace}
 use Rattle.bits.specs.Bits.{digits, value, bits_of, bytes_for, bytes_of, spare}
 use Rattle.bits.proofs.Laws.{length_digits, value-digits, digits-drop, bits-bytes, bits_of-append, length-bits_of, length-bytes_of}
 use Rattle.layout.specs.declared.Kind.{Kind}
-use Rattle.layout.specs.declared.Reading.{Reading}
-use Rattle.layout.specs.declared.Verdict.TheVariants.{Frame}
-use Rattle.layout.specs.declared.Judged.{Judged}
-use Rattle.layout.specs.declared.Judged.TheVariants.{Writable}
-use Rattle.layout.specs.declared.Judged.TheVariants as judged
-use Rattle.layout.specs.declared.Written.{Written}
-use Rattle.layout.specs.declared.Written.TheVariants.{Bits}
-use Rattle.layout.specs.declared.Written.TheVariants as written
+use Rattle.layout.specs.declared.Record.{Record}
+use Rattle.layout.specs.declared.Refused.{Refused}
 use Rattle.layout.specs.Row.{Row, fits, all, there}
 use Rattle.layout.specs.Read.{Answer, frame, refused, read_rows}
 use Rattle.layout.specs.Write.{held, lay, good, good_but_group, vals, emit}
@@ -153,19 +149,19 @@ lay-zeros (r ∷ left) done [] (suc k) = rw (lay-zeros left (done ++ (held (ther
 lay-zeros (r ∷ left) done (v ∷ s) k = rw (lay-zeros left (done ++ (held (there done r) v ∷ [])) s k)
 
 -- ---- a record is writable exactly where it is valid
-pub valid-judged : (kind : Kind) (s : List ℕ) → T (valid kind s) → judged_of kind s ≡ Writable
+pub valid-judged : (kind : Kind) (s : List ℕ) → T (valid kind s) → judged_of kind s ≡ Ok tt
 unfolding valid judged_of
 valid-judged kind s t = go (all good (laid kind s)) _ t
   where
-    go : (a : Bool) (j : Judged) → T a → cond a Writable j ≡ Writable
+    go : (a : Bool) (j : Result ⊤ Refusal) → T a → cond a (Ok tt) j ≡ Ok tt
     go true j t = refl
     go false j t = absurd t
 
-pub judged-valid : (kind : Kind) (s : List ℕ) → judged_of kind s ≡ Writable → T (valid kind s)
+pub judged-valid : (kind : Kind) (s : List ℕ) → judged_of kind s ≡ Ok tt → T (valid kind s)
 unfolding valid judged_of
 judged-valid kind s e = go (all good (laid kind s)) (all good_but_group (laid kind s)) e
   where
-    go : (a b : Bool) → cond a Writable (cond b (judged.Refused NoGroup) (judged.Refused Reserved)) ≡ Writable → T a
+    go : (a b : Bool) → ◌≡◌ {A = Result ⊤ Refusal} (cond a (Ok tt) (cond b (Err NoGroup) (Err Reserved))) (Ok tt) → T a
     go true b e = tt
     go false true e = let z : ◌≡◌ {A = ℕ} 0 1 = cc in absurd (omega arith)
     go false false e = let z : ◌≡◌ {A = ℕ} 0 1 = cc in absurd (omega arith)
@@ -188,9 +184,9 @@ record Wrote (kind : Kind) (s : List ℕ) (size start n : ℕ) : Type 0 where
   inside : start ≤ size
   reads : (rest : List ℕ) → read_bytes kind (bytes_of (write kind s) ++ rest) n ≡ frame (clean kind s)
 
-abbrev Writes : Kind → List ℕ → ℕ → ℕ → Written → Type 0
-Writes kind s size start (Bits n) = Wrote kind s size start n
-Writes kind s size start (written.Refused n) = Unit {0}
+abbrev Writes : Kind → List ℕ → ℕ → ℕ → Result ℕ Refusal → Type 0
+Writes kind s size start (Ok n) = Wrote kind s size start n
+Writes kind s size start (Err n) = Unit {0}
 
 writes : (kind : Kind) (s : List ℕ) (size start : ℕ) → Writes kind s size start (written_of kind s size start)
 unfolding written_of
@@ -199,18 +195,18 @@ writes kind s size start = go (judged_of kind s) refl
     n : ℕ
     n = length (write kind s)
 
-    roomy : (a b : Bool) → leb start size ≡ a → T (valid kind s) → Writes kind s size start (cond (a && b) (Bits n) (written.Refused NoSpace))
+    roomy : (a b : Bool) → leb start size ≡ a → T (valid kind s) → Writes kind s size start (cond (a && b) (Ok n) (Err NoSpace))
     roomy false b e good = tt
     roomy true false e good = tt
     roomy true true e good = record { inside = leb-true start size e; reads = λ rest. read-written kind s rest good }
 
-    go : (j : Judged) → judged_of kind s ≡ j → Writes kind s size start (written_if j n size start)
-    go (judged.Refused n) e = tt
-    go Writable e = roomy (leb start size) (leb (bytes_for n) (size - start)) refl (judged-valid kind s e)
+    go : (j : Result ⊤ Refusal) → judged_of kind s ≡ j → Writes kind s size start (written_if j n size start)
+    go (Err n) e = tt
+    go (Ok tt) e = roomy (leb start size) (leb (bytes_for n) (size - start)) refl (judged-valid kind s e)
 
 -- a record that has a frame of `count` bits is written where there is room for it
-pub write-fits : (kind : Kind) (s : List ℕ) (count : ℕ) → judged_of kind s ≡ Writable → length (write kind s) ≡ count
-    → (size start : ℕ) → start + bytes_for count ≤ size → written_of kind s size start ≡ Bits count
+pub write-fits : (kind : Kind) (s : List ℕ) (count : ℕ) → judged_of kind s ≡ Ok tt → length (write kind s) ≡ count
+    → (size start : ℕ) → start + bytes_for count ≤ size → written_of kind s size start ≡ Ok count
 unfolding written_of
 write-fits kind s count fine long size start fit =
     let inside : start ≤ size = omega arith in
@@ -218,12 +214,12 @@ write-fits kind s count fine long size start fit =
     rw (fine, long, le-leb start size inside, le-leb (bytes_for count) (size - start) enough)
 
 -- and where there is not, it is refused for that
-pub write-short : (kind : Kind) (s : List ℕ) (count : ℕ) → judged_of kind s ≡ Writable → length (write kind s) ≡ count
-    → (size start : ℕ) → size < start + bytes_for count → written_of kind s size start ≡ written.Refused NoSpace
+pub write-short : (kind : Kind) (s : List ℕ) (count : ℕ) → judged_of kind s ≡ Ok tt → length (write kind s) ≡ count
+    → (size start : ℕ) → size < start + bytes_for count → written_of kind s size start ≡ Err NoSpace
 unfolding written_of
 write-short kind s count fine long size start short = rw (fine, long) (go (leb start size) refl)
   where
-    go : (b : Bool) → leb start size ≡ b → cond (b && leb (bytes_for count) (size - start)) (Bits count) (written.Refused NoSpace) ≡ written.Refused NoSpace
+    go : (b : Bool) → leb start size ≡ b → cond (b && leb (bytes_for count) (size - start)) (Ok count) (Err NoSpace) ≡ Err NoSpace
     go false e = refl
     go true e = rw (lt-leb (bytes_for count) (size - start) (omega (arith, leb-true start size e)))
 
@@ -253,7 +249,7 @@ takes kind bytes count = go (ltb (8 * length bytes) count) refl
 
 -- ---- what the writer makes, the reader returns
 -- a frame of n bits that was written from the byte `start` on is read there, whatever comes after it
-pub read-output : (kind : Kind) (s out : List ℕ) (start n : ℕ) → written_of kind s (length out) start ≡ Bits n
+pub read-output : (kind : Kind) (s out : List ℕ) (start n : ℕ) → written_of kind s (length out) start ≡ Ok n
     → read_bytes kind (drop start (output_of kind s out start)) n ≡ frame (clean kind s)
 unfolding output_of
 read-output kind s out start n e =
@@ -262,10 +258,10 @@ read-output kind s out start n e =
     let before = length-take-le start out w.inside in
     rw (e, drop_at (take start out) (bytes_of (write kind s) ++ rest) start before, w.reads rest)
 
-abbrev pub read_as : List ℕ → Reading
-read_as s = record { verdict = Frame; values = record { place = filled s } }
+abbrev pub read_as : List ℕ → Result Record Refused
+read_as s = Ok (record { place = filled s })
 
-pub write-then-read : (kind : Kind) (s out : List ℕ) (start n : ℕ) → written_of kind s (length out) start ≡ Bits n
+pub write-then-read : (kind : Kind) (s out : List ℕ) (start n : ℕ) → written_of kind s (length out) start ≡ Ok n
     → reading_of kind (drop start (output_of kind s out start)) n ≡ read_as (clean kind s)
 unfolding reading_of as_reading
 write-then-read kind s out start n e = ap as_reading (read-output kind s out start n e)
@@ -274,10 +270,10 @@ write-then-read kind s out start n e = ap as_reading (read-output kind s out sta
 -- a record s that was read from the first `count` bits of bytes is clean, its frame is these bits, and wherever there is room for them they are written
 pub record MadeAgain (kind : Kind) (bytes : List ℕ) (count : ℕ) (s : List ℕ) : Type 0 where
   pub cleaned : filled (clean kind s) ≡ s
-  pub writable : judged_of kind s ≡ Writable
+  pub writable : judged_of kind s ≡ Ok tt
   pub same : write kind s ≡ take count (bits_of bytes)
   pub long : length (write kind s) ≡ count
-  pub told : (out : List ℕ) (start : ℕ) → start + bytes_for count ≤ length out → written_of kind s (length out) start ≡ Bits count
+  pub told : (out : List ℕ) (start : ℕ) → start + bytes_for count ≤ length out → written_of kind s (length out) start ≡ Ok count
   pub made : (out : List ℕ) (start : ℕ) → start + bytes_for count ≤ length out
       → output_of kind s out start ≡ take start out ++ (bytes_of (take count (bits_of bytes)) ++ drop (start + bytes_for count) out)
 
@@ -301,11 +297,11 @@ made_again kind bytes count s t =
       made = λ out start fit. rw (told (length out) start fit, same);
     }
 
-pub read-then-write : (kind : Kind) (bytes : List ℕ) (count : ℕ) → (reading_of kind bytes count).verdict ≡ Frame
-    → MadeAgain kind bytes count (reading_of kind bytes count).values.place
+pub read-then-write : (kind : Kind) (bytes : List ℕ) (count : ℕ) (values : Record) → reading_of kind bytes count ≡ Ok values
+    → MadeAgain kind bytes count values.place
 unfolding reading_of as_reading
-read-then-write kind bytes count e = go (read_bytes kind bytes count) (takes kind bytes count) e
+read-then-write kind bytes count values e = go (read_bytes kind bytes count) (takes kind bytes count) e
   where
-    go : (a : Answer) → Takes kind bytes count a → (as_reading a).verdict ≡ Frame → MadeAgain kind bytes count (as_reading a).values.place
-    go (frame s) t e = made_again kind bytes count s t
+    go : (a : Answer) → Takes kind bytes count a → as_reading a ≡ Ok values → MadeAgain kind bytes count values.place
+    go (frame s) t e = subst (MadeAgain kind bytes count) (cc) (made_again kind bytes count s t)
     go (refused n at) t e = let z : ◌≡◌ {A = ℕ} 0 1 = cc in absurd (omega arith)

@@ -16,3 +16,4 @@ pub mod Lengths
 pub mod Largest
 pub mod Reached
 pub mod Room
+pub mod Unique

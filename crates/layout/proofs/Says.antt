@@ -5,11 +5,11 @@ use mathlib.Core.Path.{◌≡◌, refl}
 use mathlib.Core.Bool.{Bool, true, false, cond}
 use mathlib.Core.List.{List, [], ◌∷◌}
 use lib.ListN.{length}
+use Rattle.std.specs.Prelude.{Result, Ok, Err, ⊤}
+use Rattle.refusal.specs.declared.Refusal.{Refusal}
 use Rattle.refusal.specs.Says.{Says, accepted, refused_with}
 use Rattle.refusal.specs.declared.Refusal.TheVariants.{Reserved, NoGroup, NoSpace}
 use Rattle.layout.specs.declared.Kind.{Kind}
-use Rattle.layout.specs.declared.Judged.{Judged}
-use Rattle.layout.specs.declared.Judged.TheVariants as judged
 use Rattle.layout.specs.Row.{all}
 use Rattle.layout.specs.Read.{Answer, frame, refused}
 use Rattle.layout.specs.Write.{good, good_but_group}
@@ -34,7 +34,7 @@ pub fault-says : (kind : Kind) (s : List ℕ) → judged_says (judged_of kind s)
 unfolding judged_of
 fault-says kind s = go (all good (laid kind s)) (all good_but_group (laid kind s))
   where
-    go : (a b : Bool) → judged_says (cond a judged.Writable (cond b (judged.Refused NoGroup) (judged.Refused Reserved))) ≡ judgement a b
+    go : (a b : Bool) → judged_says (cond a (Ok tt) (cond b (Err NoGroup) (Err Reserved))) ≡ judgement a b
     go true b = refl
     go false true = refl
     go false false = refl
@@ -45,7 +45,7 @@ pub length-says : (kind : Kind) (s : List ℕ) → written_says (measured_of kin
 unfolding measured_of judged_of
 length-says kind s = go (all good (laid kind s)) (all good_but_group (laid kind s))
   where
-    go : (a b : Bool) → written_says (measured_if (cond a judged.Writable (cond b (judged.Refused NoGroup) (judged.Refused Reserved))) (frame_length kind s))
+    go : (a b : Bool) → written_says (measured_if (cond a (Ok tt) (cond b (Err NoGroup) (Err Reserved))) (frame_length kind s))
         ≡ cond a (accepted (frame_length kind s ∷ [])) (cond b (refused_with NoGroup) (refused_with Reserved))
     go true b = refl
     go false true = refl
@@ -64,10 +64,10 @@ write-says kind s size start = go (all good (laid kind s)) (all good_but_group (
     fits : (c : Bool) → Says
     fits c = cond c (accepted (n ∷ [])) (refused_with NoSpace)
 
-    judge : (a b : Bool) → Judged
-    judge a b = cond a judged.Writable (cond b (judged.Refused NoGroup) (judged.Refused Reserved))
+    judge : (a b : Bool) → Result ⊤ Refusal
+    judge a b = cond a (Ok tt) (cond b (Err NoGroup) (Err Reserved))
 
-    roomy : (c : Bool) → room n size start ≡ c → written_says (written_if judged.Writable n size start) ≡ fits (room n size start)
+    roomy : (c : Bool) → room n size start ≡ c → written_says (written_if (Ok tt) n size start) ≡ fits (room n size start)
     roomy true e = rw e
     roomy false e = rw e
 

@@ -9,13 +9,14 @@ use borrow.Author.Tests.{le-ltb, lt-ltb, ltb-true, ltb-false}
 use lib.Dec.{ltb}
 use lib.ListN.{length, take, length-append}
 use lib.Seq.{length-take-le}
+use Rattle.std.specs.Prelude.{Result, Ok, Err}
 use Rattle.refusal.specs.declared.Refusal.{Refusal}
 use Rattle.refusal.specs.declared.Refusal.TheVariants.{EndsInside}
 use Rattle.bits.specs.Bits.{bits_of}
 use Rattle.bits.proofs.Laws.{length-bits_of}
 use Rattle.layout.specs.declared.Kind.{Kind}
-use Rattle.layout.specs.declared.Verdict.{Verdict}
-use Rattle.layout.specs.declared.Verdict.TheVariants as verdict
+use Rattle.layout.specs.declared.Record.{Record}
+use Rattle.layout.specs.declared.Refused.{Refused}
 use Rattle.layout.specs.Read.{Answer, frame, refused}
 use Rattle.layout.specs.Frame.{head, read, read_bytes, as_reading, reading_of}
 use Rattle.layout.specs.Where.{Begins, Cut, ss_type_cut, action_type_cut, row_cut, OtherKind, ss_type_wrong, action_type_wrong}
@@ -49,31 +50,31 @@ refuses-within (seven e m) = begins-within m.begins
 
 -- ---- in lent bytes
 module _ (kind : Kind) (bytes : List ℕ) (count : ℕ) where
-  -- what a verdict says of the lent bits
-  abbrev Meant : Verdict → Type 0
-  Meant verdict.Frame = Unit {0}
-  Meant (verdict.Refused n at) = RefusedIn kind bytes count n at
+  -- what an answer says of the lent bits
+  abbrev Meant : Result Record Refused → Type 0
+  Meant (Ok values) = Unit {0}
+  Meant (Err e) = RefusedIn kind bytes count e.refusal e.bit
 
-  meant : Meant (reading_of kind bytes count).verdict
+  meant : Meant (reading_of kind bytes count)
   unfolding reading_of as_reading read_bytes
   meant = lent (ltb (8 * length bytes) count) refl
     where
       bits : List Bool
       bits = take count (bits_of bytes)
 
-      by_answer : (a : Answer) → read kind bits ≡ a → count ≤ 8 * length bytes → Meant (as_reading a).verdict
+      by_answer : (a : Answer) → read kind bits ≡ a → count ≤ 8 * length bytes → Meant (as_reading a)
       by_answer (frame s) e enough = tt
       by_answer (refused n at) e enough = in_the_bits enough (refused-so kind bits n at e)
 
-      lent : (b : Bool) → ltb (8 * length bytes) count ≡ b → Meant (as_reading (cond b (refused EndsInside 0) (read kind bits))).verdict
+      lent : (b : Bool) → ltb (8 * length bytes) count ≡ b → Meant (as_reading (cond b (refused EndsInside 0) (read kind bits)))
       lent true e = count_too_large (ltb-true (8 * length bytes) count e) refl refl
       lent false e = by_answer (read kind bits) refl (ltb-false (8 * length bytes) count e)
 
   module _ (n : Refusal) (at : ℕ) where
-    pub refused-in : (reading_of kind bytes count).verdict ≡ verdict.Refused n at → RefusedIn kind bytes count n at
+    pub refused-in : reading_of kind bytes count ≡ Err (record { refusal = n; bit = at }) → RefusedIn kind bytes count n at
     refused-in e = subst Meant e meant
 
-    pub in-refused : RefusedIn kind bytes count n at → (reading_of kind bytes count).verdict ≡ verdict.Refused n at
+    pub in-refused : RefusedIn kind bytes count n at → reading_of kind bytes count ≡ Err (record { refusal = n; bit = at })
     unfolding reading_of as_reading read_bytes
     in-refused (count_too_large more e f) = rw (lt-ltb (8 * length bytes) count more, e, f)
     in-refused (in_the_bits enough r) = rw (le-ltb (8 * length bytes) count enough, so-refused kind (take count (bits_of bytes)) n at r)
@@ -84,13 +85,13 @@ module _ (kind : Kind) (bytes : List ℕ) (count : ℕ) where
         omega (arith, refuses-within r, length-take-le count (bits_of bytes) (omega (arith, length-bits_of bytes)))
 
   -- so P2 leaves one number and one bit
-  abbrev number_in : Verdict → Refusal
-  number_in verdict.Frame = EndsInside
-  number_in (verdict.Refused n at) = n
+  abbrev number_in : Result Record Refused → Refusal
+  number_in (Ok values) = EndsInside
+  number_in (Err e) = e.refusal
 
-  abbrev bit_in : Verdict → ℕ
-  bit_in verdict.Frame = 0
-  bit_in (verdict.Refused n at) = at
+  abbrev bit_in : Result Record Refused → ℕ
+  bit_in (Ok values) = 0
+  bit_in (Err e) = e.bit
 
   pub one_answer : (n m : Refusal) (at bit : ℕ) → RefusedIn kind bytes count n at → RefusedIn kind bytes count m bit → (n ≡ m) × (at ≡ bit)
   one_answer n m at bit p q =

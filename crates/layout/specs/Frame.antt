@@ -1,16 +1,12 @@
 -- A frame of a kind, in bits and in lent bytes: what the reader and the writer answer for any input.
 -- Assumes nothing.
-use Rattle.std.specs.Prelude.{ℕ, ◌+◌, ◌-◌, ◌*◌, Bool, cond, not, ◌&&◌, List, [], ◌++◌, leb, ltb, eqb, length, take, drop, replicate}
+use Rattle.std.specs.Prelude.{ℕ, ◌+◌, ◌-◌, ◌*◌, Bool, cond, not, ◌&&◌, List, [], ◌++◌, leb, ltb, eqb, length, take, drop, replicate, Result, Ok, Err, ⊤}
+use Rattle.refusal.specs.declared.Refusal.{Refusal}
 use Rattle.refusal.specs.declared.Refusal.TheVariants.{EndsInside, WrongKind, Reserved, NoGroup, NoSpace}
 use Rattle.bits.specs.Bits.{digits, value, bits_of, bytes_for, bytes_of}
 use Rattle.layout.specs.declared.Kind.{Kind}
 use Rattle.layout.specs.declared.Record.{Record}
-use Rattle.layout.specs.declared.Reading.{Reading}
-use Rattle.layout.specs.declared.Verdict.TheVariants as verdict
-use Rattle.layout.specs.declared.Judged.{Judged}
-use Rattle.layout.specs.declared.Judged.TheVariants as judged
-use Rattle.layout.specs.declared.Written.{Written}
-use Rattle.layout.specs.declared.Written.TheVariants as written
+use Rattle.layout.specs.declared.Refused.{Refused}
 use Rattle.layout.specs.Row.{Row, all}
 use Rattle.layout.specs.Read.{Answer, frame, refused, read_rows}
 use Rattle.layout.specs.Write.{Laid, lay, good, good_but_group, vals, emit}
@@ -54,12 +50,12 @@ blank_of = record { place = replicate places 0 }
 abbrev pub filled : List ℕ → List ℕ
 filled s = s ++ replicate (places - length s) 0
 
--- the record, filled up; on a refusal its number and its bit alone
-unfoldable pub as_reading : Answer → Reading
-as_reading (frame s) = record { verdict = verdict.Frame; values = record { place = filled s } }
-as_reading (refused n at) = record { verdict = verdict.Refused n at; values = blank_of }
+-- the record, filled up; or the refusal and its bit
+unfoldable pub as_reading : Answer → Result Record Refused
+as_reading (frame s) = Ok (record { place = filled s })
+as_reading (refused n at) = Err (record { refusal = n; bit = at })
 
-unfoldable pub reading_of : Kind → List ℕ → ℕ → Reading
+unfoldable pub reading_of : Kind → List ℕ → ℕ → Result Record Refused
 reading_of kind bytes count = as_reading (read_bytes kind bytes count)
 
 -- ---- writing
@@ -77,26 +73,26 @@ unfoldable pub write : Kind → List ℕ → List Bool
 write kind s = head kind ++ emit (laid kind s)
 
 -- a value without a code anywhere is Reserved; NoGroup is told where nothing else is wrong
-unfoldable pub judged_of : Kind → List ℕ → Judged
+unfoldable pub judged_of : Kind → List ℕ → Result ⊤ Refusal
 judged_of kind s =
-    cond (all good (laid kind s)) judged.Writable
-    (cond (all good_but_group (laid kind s)) (judged.Refused NoGroup) (judged.Refused Reserved))
+    cond (all good (laid kind s)) (Ok tt)
+    (cond (all good_but_group (laid kind s)) (Err NoGroup) (Err Reserved))
 
 -- `bits` bits have their bytes among `size` bytes from the byte `start` on
 abbrev pub room : ℕ → ℕ → ℕ → Bool
 room bits size start = leb start size && leb (bytes_for bits) (size - start)
 
-abbrev pub written_if : Judged → ℕ → ℕ → ℕ → Written
-written_if judged.Writable bits size start = cond (room bits size start) (written.Bits bits) (written.Refused NoSpace)
-written_if (judged.Refused n) bits size start = written.Refused n
+abbrev pub written_if : Result ⊤ Refusal → ℕ → ℕ → ℕ → Result ℕ Refusal
+written_if (Ok _) bits size start = cond (room bits size start) (Ok bits) (Err NoSpace)
+written_if (Err n) bits size start = Err n
 
-unfoldable pub written_of : Kind → List ℕ → ℕ → ℕ → Written
+unfoldable pub written_of : Kind → List ℕ → ℕ → ℕ → Result ℕ Refusal
 written_of kind s size start = written_if (judged_of kind s) (length (write kind s)) size start
 
 -- the bytes before and after the frame stay, and so does all on a refusal
-abbrev pub output_if : Written → List Bool → List ℕ → ℕ → List ℕ
-output_if (written.Bits n) bits out start = take start out ++ (bytes_of bits ++ drop (start + bytes_for n) out)
-output_if (written.Refused n) bits out start = out
+abbrev pub output_if : Result ℕ Refusal → List Bool → List ℕ → ℕ → List ℕ
+output_if (Ok n) bits out start = take start out ++ (bytes_of bits ++ drop (start + bytes_for n) out)
+output_if (Err n) bits out start = out
 
 unfoldable pub output_of : Kind → List ℕ → List ℕ → ℕ → List ℕ
 output_of kind s out start = output_if (written_of kind s (length out) start) (write kind s) out start

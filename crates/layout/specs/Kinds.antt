@@ -1,9 +1,10 @@
--- The kinds of frame: the table of each, and its head.
+-- The kinds of frame: the number of each, its table, and its head.
 -- Assumes nothing.
-use Rattle.std.specs.Prelude.{ℕ, List, [], ◌∷◌}
+use Rattle.std.specs.Prelude.{ℕ, cond, eqb, List, [], ◌∷◌, Result, Ok, Err}
 use Rattle.layout.specs.declared.Kind.{Kind}
 use Rattle.layout.specs.declared.Kind.TheVariants.{Define, DefineAck, Cancel, CancelAck}
 use Rattle.layout.specs.declared.Kind.TheVariants.{Assign, AssigningAck, Deassign, DeassigningAck, Delete, DeleteAck}
+use Rattle.layout.specs.declared.UnknownKind.{UnknownKind}
 use Rattle.layout.specs.declared.Element.{Element}
 use Rattle.layout.specs.declared.KindPlaces.{KindPlaces}
 use Rattle.layout.specs.Table.{define, define_ack, cancel, cancel_ack, assign, assigning_ack, deassign, deassigning_ack, delete, delete_ack}
@@ -12,6 +13,29 @@ use Rattle.layout.specs.Table.{define, define_ack, cancel, cancel_ack, assign, a
 abbrev pub kinds : List Kind
 kinds = Define ∷ DefineAck ∷ Cancel ∷ CancelAck ∷ Assign ∷ AssigningAck ∷ Deassign ∷ DeassigningAck ∷ Delete ∷ DeleteAck ∷ []
 
+-- ---- the number of each in house text: its two digits in a line
+abbrev pub kind_number : Kind → ℕ
+kind_number Define = 0x01
+kind_number DefineAck = 0x02
+kind_number Cancel = 0x03
+kind_number CancelAck = 0x04
+kind_number Assign = 0x05
+kind_number AssigningAck = 0x06
+kind_number Deassign = 0x07
+kind_number DeassigningAck = 0x08
+kind_number Delete = 0x0C
+kind_number DeleteAck = 0x0D
+
+-- the kind of that number among these
+abbrev pub kind_among : List Kind → ℕ → Result Kind UnknownKind
+kind_among [] number = Err (record { 0 = number })
+kind_among (kind ∷ more) number = cond (eqb number (kind_number kind)) (Ok kind) (kind_among more number)
+
+-- and among all
+abbrev pub kind_named : ℕ → Result Kind UnknownKind
+kind_named = kind_among kinds
+
+-- ---- the elements of each
 unfoldable pub table_of : Kind → List Element
 table_of Define = define.elements
 table_of DefineAck = define_ack.elements

@@ -1,7 +1,8 @@
 -- The length of a frame in bits, as a formula of its counts and forms (document 02, P8).
 -- Of a record s; the place of a form or of a count holds one more than its code.
 -- Assumes nothing.
-use Rattle.std.specs.Prelude.{ℕ, zero, suc, ◌+◌, ◌-◌, cond, List, [], ◌∷◌, ltb, eqb, get_or}
+use Rattle.std.specs.Prelude.{ℕ, zero, suc, ◌+◌, ◌-◌, cond, List, [], ◌∷◌, ltb, eqb, get_or, Result, Ok, Err, ⊤}
+use Rattle.refusal.specs.declared.Refusal.{Refusal}
 use Rattle.layout.specs.declared.Kind.{Kind}
 use Rattle.layout.specs.declared.Element.{Element}
 use Rattle.layout.specs.declared.Items.{Items}
@@ -9,10 +10,6 @@ use Rattle.layout.specs.declared.Items.TheVariants.{Numbers, Letters}
 use Rattle.layout.specs.declared.Shape.{Shape}
 use Rattle.layout.specs.declared.Shape.TheVariants.{Number, Choice, Identity, Ending, Missing, Nothing}
 use Rattle.layout.specs.declared.Shape.TheVariants as shape
-use Rattle.layout.specs.declared.Judged.{Judged}
-use Rattle.layout.specs.declared.Judged.TheVariants as judged
-use Rattle.layout.specs.declared.Written.{Written}
-use Rattle.layout.specs.declared.Written.TheVariants as written
 use Rattle.layout.specs.Row.{present}
 use Rattle.layout.specs.Shape.{stride, span, conditions_of}
 use Rattle.layout.specs.Kinds.{table_of}
@@ -69,9 +66,9 @@ unfoldable pub frame_length : Kind → List ℕ → ℕ
 frame_length kind s = head_bits + elements_length (table_of kind) s 0
 
 -- ---- what is told of a record: its frame's length, or why it has no frame
-abbrev pub measured_if : Judged → ℕ → Written
-measured_if judged.Writable bits = written.Bits bits
-measured_if (judged.Refused n) bits = written.Refused n
+abbrev pub measured_if : Result ⊤ Refusal → ℕ → Result ℕ Refusal
+measured_if (Ok _) bits = Ok bits
+measured_if (Err n) bits = Err n
 
-unfoldable pub measured_of : Kind → List ℕ → Written
+unfoldable pub measured_of : Kind → List ℕ → Result ℕ Refusal
 measured_of kind s = measured_if (judged_of kind s) (frame_length kind s)

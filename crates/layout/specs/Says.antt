@@ -1,16 +1,11 @@
 -- What the reader and the writer answer, case by case, in document 01's terms: the number, 0 where it is accepted, and the values, or the bit of a refusal.
 -- Assumes nothing.
-use Rattle.std.specs.Prelude.{ℕ, List, [], ◌∷◌}
+use Rattle.std.specs.Prelude.{ℕ, [], ◌∷◌, Result, Ok, Err, ⊤}
 use Rattle.refusal.specs.Number.{number_of}
 use Rattle.refusal.specs.Says.{Says, accepted, refused_with}
 use Rattle.refusal.specs.declared.Refusal.{Refusal}
-use Rattle.layout.specs.declared.Verdict.{Verdict}
-use Rattle.layout.specs.declared.Verdict.TheVariants as verdict
-use Rattle.layout.specs.declared.Reading.{Reading}
-use Rattle.layout.specs.declared.Judged.{Judged}
-use Rattle.layout.specs.declared.Judged.TheVariants as judged
-use Rattle.layout.specs.declared.Written.{Written}
-use Rattle.layout.specs.declared.Written.TheVariants as written
+use Rattle.layout.specs.declared.Record.{Record}
+use Rattle.layout.specs.declared.Refused.{Refused}
 use Rattle.layout.specs.Read.{Answer, frame, refused}
 use Rattle.layout.specs.Frame.{filled}
 
@@ -18,22 +13,18 @@ use Rattle.layout.specs.Frame.{filled}
 abbrev pub refused_at : Refusal → ℕ → Says
 refused_at refusal at = record { number = number_of refusal; values = at ∷ [] }
 
--- a verdict, with the record beside it
-abbrev pub verdict_says : Verdict → List ℕ → Says
-verdict_says verdict.Frame place = accepted place
-verdict_says (verdict.Refused n at) place = refused_at n at
+abbrev pub reading_says : Result Record Refused → Says
+reading_says (Ok values) = accepted values.place
+reading_says (Err e) = refused_at e.refusal e.bit
 
-abbrev pub reading_says : Reading → Says
-reading_says r = verdict_says r.verdict r.values.place
-
-abbrev pub judged_says : Judged → Says
-judged_says judged.Writable = accepted []
-judged_says (judged.Refused n) = refused_with n
+abbrev pub judged_says : Result ⊤ Refusal → Says
+judged_says (Ok _) = accepted []
+judged_says (Err n) = refused_with n
 
 -- the bits that were written
-abbrev pub written_says : Written → Says
-written_says (written.Bits n) = accepted (n ∷ [])
-written_says (written.Refused n) = refused_with n
+abbrev pub written_says : Result ℕ Refusal → Says
+written_says (Ok n) = accepted (n ∷ [])
+written_says (Err n) = refused_with n
 
 -- what reading says of the bits themselves
 abbrev pub answer_says : Answer → Says

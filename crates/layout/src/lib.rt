@@ -1,13 +1,16 @@
 #![tactic(auto)]
 
 // What the frames of SS-DGNA are laid out by: the words of the tables, a frame's record, and what the reader and the writer answer.
-// There is no code here: the definitions are in specs/, and what is proved of them alone in proofs/.
+// There is little code here: the definitions are in specs/, and what is proved of them alone in proofs/.
+ghost use Rattle.std.specs.Prelude.{◌≡◌};
+ghost use Rattle.layout.specs.Kinds.{kind_number, kind_named};
+
 use refusal::Refusal;
 
 // The places of a record of any kind: as many as table 19 has rows.
 pub const PLACES: usize = 166;
 
-#[derive(Clone, Copy)]
+#[derive(Clone, Copy, Debug, PartialEq, Eq)]
 pub enum Kind {
     Define,
     DefineAck,
@@ -19,6 +22,52 @@ pub enum Kind {
     DeassigningAck,
     Delete,
     DeleteAck,
+}
+
+// A kind's number in house text.
+impl From<Kind> for u8 {
+    ghost from_gives = { λ kind result. result ≡ kind_number kind };
+
+    fn from(kind: Kind) -> u8 {
+        match kind {
+            Kind::Define => 0x01,
+            Kind::DefineAck => 0x02,
+            Kind::Cancel => 0x03,
+            Kind::CancelAck => 0x04,
+            Kind::Assign => 0x05,
+            Kind::AssigningAck => 0x06,
+            Kind::Deassign => 0x07,
+            Kind::DeassigningAck => 0x08,
+            Kind::Delete => 0x0C,
+            Kind::DeleteAck => 0x0D,
+        }
+    }
+}
+
+// A number that is no kind's.
+#[derive(Clone, Copy, Debug, PartialEq, Eq)]
+pub struct UnknownKind(pub u8);
+
+impl TryFrom<u8> for Kind {
+    type Error = UnknownKind;
+
+    ghost try_from_gives = { λ number result. result ≡ kind_named number };
+
+    fn try_from(number: u8) -> Result<Self, UnknownKind> {
+        match number {
+            0x01 => Ok(Kind::Define),
+            0x02 => Ok(Kind::DefineAck),
+            0x03 => Ok(Kind::Cancel),
+            0x04 => Ok(Kind::CancelAck),
+            0x05 => Ok(Kind::Assign),
+            0x06 => Ok(Kind::AssigningAck),
+            0x07 => Ok(Kind::Deassign),
+            0x08 => Ok(Kind::DeassigningAck),
+            0x0C => Ok(Kind::Delete),
+            0x0D => Ok(Kind::DeleteAck),
+            _ => Err(UnknownKind(number)),
+        }
+    }
 }
 
 // When an element is there: always, where a place holds a value, or by a chain of conditions, outermost first.
@@ -60,37 +109,16 @@ pub enum Shape {
 pub struct Element(pub When, pub Shape);
 
 // A frame's values, one place a row of its table, after SS-Type and action type; 0 where the row is not there.
-#[derive(Clone, Copy)]
+#[derive(Clone, Copy, PartialEq, Eq)]
 pub struct Record {
     pub place: [u32; PLACES],
 }
 
-// A refusal comes with the bit at which the refused element begins.
-#[derive(Clone, Copy)]
-pub enum Verdict {
-    Frame,
-    Refused(Refusal, usize),
-}
-
-// What the reader makes of bits. On a refusal every place is 0.
-#[derive(Clone, Copy)]
-pub struct Reading {
-    pub verdict: Verdict,
-    pub values: Record,
-}
-
-// Whether a record has a code.
-#[derive(Clone, Copy)]
-pub enum Judged {
-    Writable,
-    Refused(Refusal),
-}
-
-// How many bits a frame has, written or to be written.
-#[derive(Clone, Copy)]
-pub enum Written {
-    Bits(usize),
-    Refused(Refusal),
+// The reader's error: a refusal, and the bit at which the refused element begins.
+#[derive(Clone, Copy, Debug, PartialEq, Eq)]
+pub struct Refused {
+    pub refusal: Refusal,
+    pub bit: usize,
 }
 
 // The places of a DEFINE record (table 19). `_given` is the place of an optional element's P-bit.
