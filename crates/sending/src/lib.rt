@@ -12,6 +12,7 @@ use order::{GroupKey, RadioKey};
 use rows::ORDER_WORDS;
 
 // The kinds of an outgoing order.
+// Stays: order_row and push_orders promise a row of any kind word, so the kinds are words, and no enum.
 pub const ASSIGN: u64 = 0;
 
 pub const DEASSIGN: u64 = 1;
@@ -31,10 +32,8 @@ fn push_rows(out: &mut [[u64; ORDER_WORDS]], at: usize, kind: u64, group: GroupK
     ensures { out.new ≡ paste out.old at (map order_row (orders kind group.0 radios.now))
         (length radios.now) }
 {
-    let mut i: usize = 0;
-    while i < radios.len() {
-        out[at + i] = order_row(kind, RadioKey(radios[i]), group);
-        i += 1;
+    for (i, radio) in radios.iter().enumerate() {
+        out[at + i] = order_row(kind, RadioKey(*radio), group);
     }
 }
 
@@ -48,11 +47,7 @@ pub fn push_orders(
 )
     ensures { out.new ≡ pushed out.old at (map order_row (orders kind group.0 radios.now)) }
 {
-    if out.len() < at {
-        return;
+    if at <= out.len() && radios.len() <= out.len() - at {
+        push_rows(out, at, kind, group, radios);
     }
-    if out.len() - at < radios.len() {
-        return;
-    }
-    push_rows(out, at, kind, group, radios);
 }

@@ -1,6 +1,5 @@
 -- `sending::push_rows` meets its contract.
 use mathlib.Core.Path.{◌≡◌}
-use Prim.Native.Nat.{◌≤◌, ◌-◌}
 use mathlib.Core.List.{map}
 use lib.ListN.{length}
 use lib.Seq.{paste}
@@ -9,8 +8,4 @@ use Rattle.replies.specs.Sending.{order_row}
 use Rattle.sending.proofs.push_rows.Given as goal
 
 abbrev pub invariant-loop-i : goal.invariant-loop-i
-invariant-loop-i l = (l.i ≤ length l.radios) × (length l.out ≡ length l.initial.out)
-    × (l.out ≡ paste l.initial.out l.at (map order_row (orders l.kind l.group.0 l.radios)) l.i)
-
-abbrev pub decreases-loop-i : goal.decreases-loop-i
-decreases-loop-i l = length l.radios - l.i
+invariant-loop-i l = (length l.out ≡ length l.initial.out) × (l.out ≡ paste l.initial.out l.at (map order_row (orders l.kind l.group.0 l.radios)) l.i)
