@@ -7,6 +7,7 @@ use Prim.Native.Nat.{ℕ, suc, ◌≤◌}
 use native.Mathlib.Numerals.{add-one}
 use native.Mathlib.Omega.{arith}
 use lib.ListN.{length, take, drop}
+use Rattle.std.specs.Prelude.{Result, Ok, Err}
 use Rattle.rules.specs.Lists.{present, rises}
 use Rattle.rules.specs.Entries.{find, entry}
 use Rattle.rules.specs.ByNumber.{lower}
@@ -15,8 +16,6 @@ use Rattle.rules.proofs.Rises.{Over, Climbs}
 use Rattle.rules.proofs.ByKey.{Linear, apart, apart-back, key-climbs}
 use Rattle.rules.proofs.PutsByKey.{Above, Under}
 use Rattle.store.specs.Places.{place_of, stands_at, index_of, behind_of}
-use Rattle.store.specs.declared.Place.{Place}
-use Rattle.store.specs.declared.Place.TheVariants.{At, Free}
 use Rattle.store.proofs.PlaceLaws.{rank, place-rank, looked-found}
 
 -- where the entries behind the key begin
@@ -77,7 +76,7 @@ module _ {K X : Type 0} {same below : K → K → Bool} (o : Linear same below) 
       }
 
   -- the same of the place that is looked for
-  pub record Parted (l : List (K × X)) (place : Place) : Type 0 where
+  pub record Parted (l : List (K × X)) (place : Result ℕ ℕ) : Type 0 where
     pub stands : stands_at place ≡ present (find same l k)
     pub ordered : index_of place ≤ behind_of place
     pub inside : behind_of place ≤ length l
@@ -91,7 +90,7 @@ module _ {K X : Type 0} {same below : K → K → Bool} (o : Linear same below) 
       rw (looked-found o l k r, place-rank o l k c) (go (present (find same l k)) refl (parts-of l c))
     where
       go : (b : Bool) → present (find same l k) ≡ b → Parts l (rank below l k) (behind (present (find same l k)) (rank below l k)) (find same l k)
-          → Parted l (cond b (At (rank below l k)) (Free (rank below l k)))
+          → Parted l (cond b (Ok (rank below l k)) (Err (rank below l k)))
       go true e p =
           let q = recast l p refl ((λ t. behind (e t) (rank below l k)) ∙ sym (add-one (rank below l k))) refl in
           record { stands = sym e; ordered = omega arith; inside = q.inside; parts = q.parts; low = q.low; high = q.high }

@@ -4,6 +4,7 @@ use mathlib.Core.Bool.{Bool, true, false, cond}
 use mathlib.Core.List.{List, [], ◌∷◌}
 use mathlib.Core.Option.{Option, none, some}
 use Prim.Native.Nat.{ℕ}
+use Rattle.std.specs.Prelude.{Ok, Err}
 use Rattle.refusal.specs.Says.{Says, accepted, refused_with}
 use Rattle.refusal.specs.declared.Refusal.TheVariants.{NoSuchGroup, NotOwner}
 use Rattle.rules.specs.Lists.{mem, present}
@@ -12,7 +13,6 @@ use Rattle.rules.specs.Ledger.{Group}
 use Rattle.store.specs.Halving.{place_in}
 use Rattle.store.specs.Places.{place_of, looked_up, found_of}
 use Rattle.store.specs.Named.{owned_as}
-use Rattle.store.specs.declared.Place.TheVariants.{At, Free}
 use Rattle.store.specs.declared.Owned.TheVariants.{Own, Other}
 use Rattle.store.specs.Says.{place_says, found_says, owned_says}
 
@@ -21,7 +21,7 @@ pub place-says : {K X : Type 0} (below same : K → K → Bool) (l : List (K × 
     → place_says (place_of below same l k) ≡ accepted (cond (present (looked_up below same l k)) 1 0 ∷ place_in below l k ∷ [])
 place-says below same l k = go (present (looked_up below same l k))
   where
-    go : (b : Bool) → place_says (cond b (At (place_in below l k)) (Free (place_in below l k))) ≡ accepted (cond b 1 0 ∷ place_in below l k ∷ [])
+    go : (b : Bool) → place_says (cond b (Ok (place_in below l k)) (Err (place_in below l k))) ≡ accepted (cond b 1 0 ∷ place_in below l k ∷ [])
     go true = refl
     go false = refl
 

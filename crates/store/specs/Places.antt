@@ -1,16 +1,12 @@
 -- The place of a key among entries, and what is looked up there.
-use Rattle.std.specs.Prelude.{ℕ, ◌+◌, Bool, true, false, cond, List}
+use Rattle.std.specs.Prelude.{ℕ, ◌+◌, Bool, true, false, cond, List, Result, Ok, Err, Option as Found, Some, None}
 use Rattle.std.proofs.Math.Option.{Option, none, some}
 use Rattle.rules.specs.Lists.{present}
 use Rattle.rules.specs.Mark.{Mark}
 use Rattle.rules.specs.Ledger.{Pair, same_pair}
 use Rattle.rules.specs.ByNumber.{below_pair}
 use Rattle.store.specs.Halving.{element_at, place_in}
-use Rattle.store.specs.declared.Place.{Place}
-use Rattle.store.specs.declared.Place.TheVariants.{At, Free}
 use Rattle.store.specs.declared.Stretch.{Stretch}
-use Rattle.store.specs.declared.Found.{Found}
-use Rattle.store.specs.declared.Found.TheVariants.{Held, Nothing}
 
 module _ {K X : Type 0} (below same : K → K → Bool) where
   -- an entry's value where it is the key's
@@ -23,21 +19,21 @@ module _ {K X : Type 0} (below same : K → K → Bool) where
   looked_up l k = value_in k (element_at (place_in below l k) l)
 
   -- it stands at its place, or would come there
-  abbrev pub place_of : List (K × X) → K → Place
-  place_of l k = cond (present (looked_up l k)) (At (place_in below l k)) (Free (place_in below l k))
+  abbrev pub place_of : List (K × X) → K → Result ℕ ℕ
+  place_of l k = cond (present (looked_up l k)) (Ok (place_in below l k)) (Err (place_in below l k))
 
-abbrev pub stands_at : Place → Bool
-stands_at (At i) = true
-stands_at (Free i) = false
+abbrev pub stands_at : Result ℕ ℕ → Bool
+stands_at (Ok i) = true
+stands_at (Err i) = false
 
-abbrev pub index_of : Place → ℕ
-index_of (At i) = i
-index_of (Free i) = i
+abbrev pub index_of : Result ℕ ℕ → ℕ
+index_of (Ok i) = i
+index_of (Err i) = i
 
 -- where what is behind it begins
-abbrev pub behind_of : Place → ℕ
-behind_of (At i) = i + 1
-behind_of (Free i) = i
+abbrev pub behind_of : Result ℕ ℕ → ℕ
+behind_of (Ok i) = i + 1
+behind_of (Err i) = i
 
 -- ---- a group's stretch ----
 
@@ -55,6 +51,6 @@ stretch_of l g = record { from = place_in below_pair l (g, 0); to = place_in bel
 abbrev pub mark_in : Pair × Mark → Pair → Option Mark
 mark_in e k = cond (same_pair k e.0) (some e.1) none
 
-abbrev pub found_of : Option Mark → Found
-found_of none = Nothing
-found_of (some m) = Held m.state
+abbrev pub found_of : Option Mark → Found ℕ
+found_of none = None
+found_of (some m) = Some m.state

@@ -1,23 +1,19 @@
 -- What is looked up says, in document 01's terms: the number, 0 where nothing is wrong, and the values.
-use Rattle.std.specs.Prelude.{[], ◌∷◌}
+use Rattle.std.specs.Prelude.{ℕ, [], ◌∷◌, Result, Ok, Err, Option, Some, None}
 use Rattle.refusal.specs.Says.{Says, accepted, refused_with}
 use Rattle.refusal.specs.declared.Refusal.TheVariants.{NoSuchGroup, NotOwner}
-use Rattle.store.specs.declared.Place.{Place}
-use Rattle.store.specs.declared.Place.TheVariants as place
-use Rattle.store.specs.declared.Found.{Found}
-use Rattle.store.specs.declared.Found.TheVariants as found
 use Rattle.store.specs.declared.Owned.{Owned}
 use Rattle.store.specs.declared.Owned.TheVariants as owned
 
 -- whether it stands there, 1 or 0, and the place
-abbrev pub place_says : Place → Says
-place_says (place.At i) = accepted (1 ∷ i ∷ [])
-place_says (place.Free i) = accepted (0 ∷ i ∷ [])
+abbrev pub place_says : Result ℕ ℕ → Says
+place_says (Ok i) = accepted (1 ∷ i ∷ [])
+place_says (Err i) = accepted (0 ∷ i ∷ [])
 
 -- "Finding a pair yields its state, or says plainly that there is none"
-abbrev pub found_says : Found → Says
-found_says (found.Held state) = accepted (state ∷ [])
-found_says found.Nothing = accepted []
+abbrev pub found_says : Option ℕ → Says
+found_says (Some state) = accepted (state ∷ [])
+found_says None = accepted []
 
 -- 12 where the group is not in the ledger, 13 where the asker does not own it
 abbrev pub owned_says : Owned → Says

@@ -7,7 +7,7 @@ ghost use Rattle.store.specs.Places.{looked_up};
 ghost use Rattle.store.specs.Storage.{group_of, groups_of};
 
 use crate::places::group_place;
-use crate::{Owned, Place, Standing};
+use crate::{Owned, Standing};
 use order::keys::{group_at, group_count};
 use order::lists::member;
 use order::{GroupKey, Groups, RadioKey};
@@ -30,7 +30,7 @@ pub fn owned_by(
 ) -> Owned
     ensures { result ≡ owned_as (looked_up ltb eqb (groups_of count groups.now) group.0) asker.0 }
 {
-    let Place::At(i) = group_place(groups, count, group) else {
+    let Ok(i) = group_place(groups, count, group) else {
         return Owned::Absent;
     };
     if owner_in(groups[i], asker) {

@@ -6,7 +6,7 @@ ghost use Rattle.store.specs.Halving.{place_in};
 ghost use Rattle.store.specs.Places.{place_of, stands_at, found_of, mark_in, stretch_of, looked_up};
 ghost use Rattle.store.specs.Storage.{pair_of, pairs_of, groups_of};
 
-use crate::{Found, Place, Stretch};
+use crate::Stretch;
 use order::{GroupKey, RadioKey};
 use rows::{GROUP_WORDS, KEY_WORD, PAIR_GROUP, PAIR_RADIO, PAIR_STATE, PAIR_WORDS, lesser};
 
@@ -27,13 +27,11 @@ fn is_before(row: [u64; PAIR_WORDS], group: GroupKey, radio: RadioKey) -> bool
     (row[PAIR_GROUP] < group.0) | ((row[PAIR_GROUP] == group.0) & (row[PAIR_RADIO] < radio.0))
 }
 
-pub fn stands(place: Place) -> bool
+// Whether it stands at its place.
+pub fn stands(place: Result<usize, usize>) -> bool
     ensures { result ≡ stands_at place }
 {
-    match place {
-        Place::At(_) => true,
-        Place::Free(_) => false,
-    }
+    place.is_ok()
 }
 
 // How many pairs come before this one.
@@ -72,37 +70,41 @@ fn group_from(groups: &[[u64; GROUP_WORDS]], count: usize, group: GroupKey) -> u
     from
 }
 
-// The place of a pair.
+// The place of a pair: it stands there, or would come there.
 pub fn pair_place(
     pairs: &[[u64; PAIR_WORDS]],
     count: usize,
     group: GroupKey,
     radio: RadioKey,
-) -> Place
+) -> Result<usize, usize>
     ensures { result ≡ place_of below_pair same_pair (pairs_of count pairs.now) (group.0, radio.0) }
 {
     let end = lesser(count, pairs.len());
     let i = pair_from(pairs, count, group, radio);
     if i < end {
         if is_pair(pairs[i], group, radio) {
-            return Place::At(i);
+            return Ok(i);
         }
     }
-    Place::Free(i)
+    Err(i)
 }
 
-// The place of a group.
-pub fn group_place(groups: &[[u64; GROUP_WORDS]], count: usize, group: GroupKey) -> Place
+// The place of a group: it stands there, or would come there.
+pub fn group_place(
+    groups: &[[u64; GROUP_WORDS]],
+    count: usize,
+    group: GroupKey,
+) -> Result<usize, usize>
     ensures { result ≡ place_of ltb eqb (groups_of count groups.now) group.0 }
 {
     let end = lesser(count, groups.len());
     let i = group_from(groups, count, group);
     if i < end {
         if group.0 == groups[i][KEY_WORD] {
-            return Place::At(i);
+            return Ok(i);
         }
     }
-    Place::Free(i)
+    Err(i)
 }
 
 // A group's stretch.
@@ -116,21 +118,26 @@ pub fn stretch_of(pairs: &[[u64; PAIR_WORDS]], count: usize, group: GroupKey) ->
 }
 
 // A row's state, where it is this pair's.
-pub fn state_in(row: [u64; PAIR_WORDS], group: GroupKey, radio: RadioKey) -> Found
+pub fn state_in(row: [u64; PAIR_WORDS], group: GroupKey, radio: RadioKey) -> Option<u64>
     ensures { result ≡ found_of (mark_in (pair_of row) (group.0, radio.0)) }
 {
     if is_pair(row, group, radio) {
-        return Found::Held(row[PAIR_STATE]);
+        return Some(row[PAIR_STATE]);
     }
-    Found::Nothing
+    None
 }
 
 // A pair's state, or plainly nothing.
-pub fn find(pairs: &[[u64; PAIR_WORDS]], count: usize, group: GroupKey, radio: RadioKey) -> Found
+pub fn find(
+    pairs: &[[u64; PAIR_WORDS]],
+    count: usize,
+    group: GroupKey,
+    radio: RadioKey,
+) -> Option<u64>
     ensures { result ≡ found_of (looked_up below_pair same_pair (pairs_of count pairs.now) (group.0, radio.0)) }
 {
-    let Place::At(i) = pair_place(pairs, count, group, radio) else {
-        return Found::Nothing;
+    let Ok(i) = pair_place(pairs, count, group, radio) else {
+        return None;
     };
     state_in(pairs[i], group, radio)
 }

@@ -10,17 +10,17 @@ use Rattle.store.proofs.places.find.Goals as goal
 pub offset_bounds-pairs-i : goal.offset_bounds-pairs-i
 offset_bounds-pairs-i c =
     let a = c.args in
-    let r = at_lent below_pair same_pair pair_of a.pairs.now a.count _ (a.group.0, a.radio.0) c.in-At.i c.in-At.is c.pair_place.ensures in
+    let r = at_lent below_pair same_pair pair_of a.pairs.now a.count _ (a.group.0, a.radio.0) c.in-Ok.i c.in-Ok.is c.pair_place.ensures in
     omega (arith, r.inside)
 
 pub bounds-pairs-i : goal.bounds-pairs-i
 bounds-pairs-i c =
     let a = c.args in
-    let r = at_lent below_pair same_pair pair_of a.pairs.now a.count _ (a.group.0, a.radio.0) c.in-At.i c.in-At.is c.pair_place.ensures in
+    let r = at_lent below_pair same_pair pair_of a.pairs.now a.count _ (a.group.0, a.radio.0) c.in-Ok.i c.in-Ok.is c.pair_place.ensures in
     omega (arith, r.inside)
 
 pub returns : goal.returns
 returns c =
     let a = c.args in
-    let r = at_lent below_pair same_pair pair_of a.pairs.now a.count _ (a.group.0, a.radio.0) c.in-At.i c.in-At.is c.pair_place.ensures in
+    let r = at_lent below_pair same_pair pair_of a.pairs.now a.count _ (a.group.0, a.radio.0) c.in-Ok.i c.in-Ok.is c.pair_place.ensures in
     c.state_in.ensures ∙ rw (r.is, r.found)
