@@ -1,6 +1,6 @@
 -- What each shape finds, by what its parts promise.
 -- Assumes nothing.
-use Rattle.std.proofs.Common.{◌≡◌, ℕ, suc, ◌+◌, ◌^◌, ◌<◌, ◌≤◌, Bool, T, eqb, leb, List, [], ◌∷◌, get_or, take, drop, sym, refl, ap, ◌∙◌, subst, inl, inr, add-one, arith, get_or-take, pow_mono}
+use Rattle.std.proofs.Common.{◌≡◌, ℕ, suc, ◌+◌, ◌^◌, ◌<◌, ◌≤◌, Bool, T, eqb, leb, Option, Some, None, List, [], ◌∷◌, get_or, take, drop, sym, refl, ap, ◌∙◌, subst, inl, inr, add-one, arith, get_or-take, pow_mono}
 use borrow.Author.Tests.{lt-leb}
 use Rattle.refusal.specs.declared.Refusal.TheVariants.{NoGroup, NothingFollows, TypeThree}
 use Rattle.layout.specs.declared.Items.{Items}
@@ -19,7 +19,6 @@ use Rattle.table.proofs.FieldLaws.{number-row}
 use Rattle.table.proofs.ShapeLaws.{sound-number, sound-missing}
 use Rattle.writing.specs.declared.Pass.{Pass}
 use Rattle.writing.specs.declared.Pass.TheVariants.{Judge, Lay}
-use Rattle.writing.specs.declared.Put.{Put}
 use Rattle.writing.specs.declared.Passed.{Passed}
 use Rattle.writing.specs.declared.Passed.TheVariants as passed
 use Rattle.writing.specs.Lay.{Finds, Passes, Any, Writes}
@@ -33,15 +32,15 @@ abbrev m_bit : Field
 m_bit = record { width = 1; first = 0; codes = 1; refusal = TypeThree }
 
 -- what is promised of a shape
-abbrev Told : Pass → List ℕ → ℕ → ℕ → ℕ → List ℕ → List ℕ → Passed → Shape → Type 0
+abbrev Told : Pass → List ℕ → ℕ → ℕ → ℕ → List ℕ → List ℕ → Option Passed → Shape → Type 0
 Told pass s last at p out out' r x = Puts pass (Looks pass s last p x) (rows_of x [] p) s at p out out' r
 
-module _ (pass : Pass) (s : List ℕ) (last at p : ℕ) (x : Shape) {out out' : List ℕ} {r : Passed} (inside : p < places) where
+module _ (pass : Pass) (s : List ℕ) (last at p : ℕ) (x : Shape) {out out' : List ℕ} {r : Option Passed} (inside : p < places) where
   -- where the shape is told by a match
   when-told : (y : Shape) → x ≡ y → Told pass s last at p out out' r y → Told pass s last at p out out' r x
   when-told y e f = subst (Told pass s last at p out out' r) (sym e) f
 
-  module _ {f : Field} {t : Put} where
+  module _ {f : Field} {t : Option ℕ} where
     pub number-found : (w : ℕ) → x ≡ Number w → T (sound x p) → f ≡ number_field w → Passes pass f (get_or s p 0) at out out' t
         → r ≡ found_of t (get_or s p 0) → Told pass s last at p out out' r x
     unfolding rows_of
@@ -63,38 +62,38 @@ module _ (pass : Pass) (s : List ℕ) (last at p : ℕ) (x : Shape) {out out' : 
         when-told (Choice w n) e (puts-found one refl (inr (omega arith)) inside (Looks pass s last p (Choice w n)) _ r refl h)
 
   -- an identity, a list: the first row is a choice
-  pub identity-found : {t : Put} → x ≡ Identity → Writes pass Any (identity [] p) s at p out out' t → r ≡ found_of t (get_or s p 0)
+  pub identity-found : {t : Option ℕ} → x ≡ Identity → Writes pass Any (identity [] p) s at p out out' t → r ≡ found_of t (get_or s p 0)
       → Told pass s last at p out out' r x
   unfolding rows_of
   identity-found e g h = when-told Identity e (puts-found g refl (inr (omega arith)) inside (Looks pass s last p Identity) _ r refl h)
 
-  pub list-found : {t : Put} (items : Items) → x ≡ shape.List items → Writes pass Any (rows_of (shape.List items) [] p) s at p out out' t
+  pub list-found : {t : Option ℕ} (items : Items) → x ≡ shape.List items → Writes pass Any (rows_of (shape.List items) [] p) s at p out out' t
       → r ≡ found_of t (get_or s p 0) → Told pass s last at p out out' r x
   unfolding rows_of
   list-found items e g h = when-told (shape.List items) e (puts-found g refl (inr (omega arith)) inside (Looks pass s last p (shape.List items)) _ r refl h)
 
   -- the M-bit is laid as 0, whatever its place holds
-  pub ending-found : {t : Put} → x ≡ Ending → Passes pass m_bit 0 at out out' t → r ≡ found_of t 0 → Told pass s last at p out out' r x
+  pub ending-found : {t : Option ℕ} → x ≡ Ending → Passes pass m_bit 0 at out out' t → r ≡ found_of t 0 → Told pass s last at p out out' r x
   unfolding rows_of
   ending-found e g h = when-told Ending e (puts-found (field-writes g inside refl Any) refl (inl refl) inside (Looks pass s last p Ending) 0 r refl h)
 
 -- ---- the two refusals
-module _ (pass : Pass) (s : List ℕ) (last at p : ℕ) (x : Shape) {out : List ℕ} {r : Passed} (inside : p < places) (reason : Bool) where
-  pub missing-found : (q : ℕ) → x ≡ Missing q → T (sound x p) → reason ≡ eqb (get_or s q 0) No → r ≡ barred_of pass reason passed.NoGroup at
+module _ (pass : Pass) (s : List ℕ) (last at p : ℕ) (x : Shape) {out : List ℕ} {r : Option Passed} (inside : p < places) (reason : Bool) where
+  pub missing-found : (q : ℕ) → x ≡ Missing q → T (sound x p) → reason ≡ eqb (get_or s q 0) No → r ≡ barred_of pass reason (Some passed.NoGroup) at
       → Told pass s last at p out out r x
   unfolding rows_of present
   missing-found q e ok d h =
       when-told pass s last at p x inside (Missing q) e
-      (puts-barred NoGroup (is q No) s at p out pass inside (Looks pass s last p (Missing q)) reason passed.NoGroup tt
+      (puts-barred NoGroup (is q No) s at p out pass inside (Looks pass s last p (Missing q)) reason (Some passed.NoGroup) tt
       (λ vs z k. finds pass (rw (get_or-take p vs q 0 (sound-missing x p q e ok)) (and-true (eqb (get_or vs q 0) No) ∙ k ∙ sym d)))
       (λ vs l z on. bar-group NoGroup (is q No) s at p out vs l z refl on)
       r h)
 
-  pub nothing-found : (o : ℕ) → x ≡ Nothing o → reason ≡ leb last (o + 1) → r ≡ barred_of pass reason passed.Bad at → Told pass s last at p out out r x
+  pub nothing-found : (o : ℕ) → x ≡ Nothing o → reason ≡ leb last (o + 1) → r ≡ barred_of pass reason None at → Told pass s last at p out out r x
   unfolding rows_of present
   nothing-found o e d h =
       when-told pass s last at p x inside (Nothing o) e
-      (puts-barred NothingFollows (nothing_since o) s at p out pass inside (Looks pass s last p (Nothing o)) reason passed.Bad tt
+      (puts-barred NothingFollows (nothing_since o) s at p out pass inside (Looks pass s last p (Nothing o)) reason None tt
       (λ vs z k. noted pass vs k)
       (λ vs l z on. bar-bad NothingFollows (nothing_since o) s at p out vs l z refl on)
       r h)

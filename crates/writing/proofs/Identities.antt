@@ -1,9 +1,7 @@
 -- An identity and an item of a list, passed: which rows are there is asked of the caller's record, which the cleaned one agrees with at the place asked.
 -- Assumes nothing.
-use Rattle.std.proofs.Common.{◌≡◌, ℕ, zero, suc, ◌+◌, ◌*◌, ◌<◌, ◌≤◌, List, [], ◌∷◌, get_or, drop, set, sym, refl, ◌∙◌, subst, arith, length-set, get_or-set_other}
+use Rattle.std.proofs.Common.{◌≡◌, ℕ, zero, suc, ◌+◌, ◌*◌, ◌<◌, ◌≤◌, Option, Some, None, List, [], ◌∷◌, get_or, drop, set, sym, refl, ◌∙◌, subst, arith, length-set, get_or-set_other}
 use Rattle.writing.specs.declared.Pass.{Pass}
-use Rattle.writing.specs.declared.Put.{Put}
-use Rattle.writing.specs.declared.Put.TheVariants.{Next, Bad}
 use Rattle.layout.specs.Row.{at_least}
 use Rattle.layout.specs.Shape.{identity, item, stride}
 use Rattle.layout.specs.Frame.{places}
@@ -20,7 +18,7 @@ use Rattle.writing.proofs.Parts.{within_on, clear-set}
 -- ---- after the form at the place p
 module _ {pass : Pass} {s : List ℕ} {at : ℕ} (p : ℕ) (room : p + 4 ≤ places) where
   -- a number of 24 or 8 bits, by its value
-  module _ {out out₁ : List ℕ} {r : Put} where
+  module _ {out out₁ : List ℕ} {r : Option ℕ} where
     pub extension-there : get_or s p 0 ≡ 3 → Passes pass (number_field 24) (get_or s (p + 3) 0) at out out₁ r
         → Writes pass (Known s p) (drop 3 (identity [] p)) s at (p + 3) out out₁ r
     extension-there e f =
@@ -45,11 +43,11 @@ module _ {pass : Pass} {s : List ℕ} {at : ℕ} (p : ℕ) (room : p + 4 ≤ pla
               (w, form-sna (laying pass s) p (kept vs out) (omega arith) at (kept w out₁) r (k ∙ e) z (f.lays s vs (p + 1) (omega arith) refl));
         }
       where
-        longer : (r : Put) → Within r (at + 32) → Within r (at + 32 + 32 * 2)
-        longer (Next x) h = omega arith
-        longer Bad h = tt
+        longer : (r : Option ℕ) → Within r (at + 32) → Within r (at + 32 + 32 * 2)
+        longer (Some x) h = omega arith
+        longer None h = tt
 
-  pub no-extension : (out : List ℕ) → (get_or s p 0 ≡ 3 → ⊥) → Writes pass (Known s p) (drop 3 (identity [] p)) s at (p + 3) out out (Next at)
+  pub no-extension : (out : List ℕ) → (get_or s p 0 ≡ 3 → ⊥) → Writes pass (Known s p) (drop 3 (identity [] p)) s at (p + 3) out out (Some at)
   no-extension out e =
       record {
         size = refl;
@@ -59,7 +57,7 @@ module _ {pass : Pass} {s : List ℕ} {at : ℕ} (p : ℕ) (room : p + 4 ≤ pla
       }
 
   -- a form of 0 has nothing behind it; 1 was an SNA
-  pub no-form : (out : List ℕ) → get_or s p 0 < 2 → (get_or s p 0 ≡ 1 → ⊥) → Writes pass (Known s p) (drop 1 (identity [] p)) s at (p + 1) out out (Next at)
+  pub no-form : (out : List ℕ) → get_or s p 0 < 2 → (get_or s p 0 ≡ 1 → ⊥) → Writes pass (Known s p) (drop 1 (identity [] p)) s at (p + 1) out out (Some at)
   no-form out l e =
       let none : get_or s p 0 ≡ 0 = zero_left (get_or s p 0) l e in
       record {
@@ -75,14 +73,14 @@ module _ {pass : Pass} {s : List ℕ} {at : ℕ} (p : ℕ) (room : p + 4 ≤ pla
       zero_left (suc (suc n)) l e = omega arith
 
   -- a form from 2 on has an SSI, and what its extension's row says
-  module _ {out out₁ : List ℕ} {r₁ : Put} (from : 2 ≤ get_or s p 0) (f : Passes pass (number_field 24) (get_or s (p + 2) 0) at out out₁ r₁) where
-    pub ssi-then : (at₁ : ℕ) (out₂ : List ℕ) (r : Put) → r₁ ≡ Next at₁ → Writes pass (Known s p) (drop 3 (identity [] p)) s at₁ (p + 3) out₁ out₂ r
+  module _ {out out₁ : List ℕ} {r₁ : Option ℕ} (from : 2 ≤ get_or s p 0) (f : Passes pass (number_field 24) (get_or s (p + 2) 0) at out out₁ r₁) where
+    pub ssi-then : (at₁ : ℕ) (out₂ : List ℕ) (r : Option ℕ) → r₁ ≡ Some at₁ → Writes pass (Known s p) (drop 3 (identity [] p)) s at₁ (p + 3) out₁ out₂ r
         → Writes pass (Known s p) (drop 1 (identity [] p)) s at (p + 1) out out₂ r
     ssi-then at₁ out₂ r e g =
         record {
           size = g.size ∙ f.size;
           keeps = keeps_on pass out out₁ out₂ f.keeps g.keeps;
-          within = within_on r at at₁ 2 1 3 (omega arith) (longer (subst (λ (x : Put). Within x (at + 32)) e f.within)) g.within;
+          within = within_on r at at₁ 2 1 3 (omega arith) (longer (subst (λ (x : Option ℕ). Within x (at + 32)) e f.within)) g.within;
           lays = λ vs size z k.
               let v = get_or s (p + 2) 0 in
               let w = set vs (p + 2) v in
@@ -97,7 +95,7 @@ module _ {pass : Pass} {s : List ℕ} {at : ℕ} (p : ℕ) (room : p + 4 ≤ pla
         longer : at₁ ≤ at + 32 → at₁ ≤ at + 32 * 2
         longer h = omega arith
 
-    pub ssi-stop : r₁ ≡ Bad → Writes pass (Known s p) (drop 1 (identity [] p)) s at (p + 1) out out₁ Bad
+    pub ssi-stop : r₁ ≡ None → Writes pass (Known s p) (drop 1 (identity [] p)) s at (p + 1) out out₁ None
     ssi-stop e =
         record {
           size = f.size;
@@ -106,13 +104,13 @@ module _ {pass : Pass} {s : List ℕ} {at : ℕ} (p : ℕ) (room : p + 4 ≤ pla
           lays = λ vs size z k. (
             set vs (p + 2) (get_or s (p + 2) 0),
             form-stop (laying pass s) p (kept vs out) (omega arith) at (kept (set vs (p + 2) (get_or s (p + 2) 0)) out₁) r₁ (omega arith) z
-                (f.lays s vs (p + 2) (omega arith) refl) Bad e tt,
+                (f.lays s vs (p + 2) (omega arith) refl) None e tt,
           );
         }
 
 -- ---- an item of the list whose count is at the place t
 module _ {pass : Pass} (items : Items) {s : List ℕ} {at : ℕ} (t p v : ℕ) (before : t < p) (room : p + stride items ≤ places) where
-  pub item-there : {out out₁ : List ℕ} {r : Put} → v ≤ get_or s t 0 → Writes pass Any (item items [] p) s at p out out₁ r
+  pub item-there : {out out₁ : List ℕ} {r : Option ℕ} → v ≤ get_or s t 0 → Writes pass Any (item items [] p) s at p out out₁ r
       → Writes pass (Known s t) (item items (at_least t v ∷ []) p) s at p out out₁ r
   item-there {out} {out₁} {r} h f =
       record {
@@ -124,7 +122,7 @@ module _ {pass : Pass} (items : Items) {s : List ℕ} {at : ℕ} (t p v : ℕ) (
             (rest.0, item_on (laying pass s) items t p v (kept vs out) before at (kept rest.0 out₁) r (omega (arith, k)) rest.1);
       }
 
-  pub item-absent : (out : List ℕ) → get_or s t 0 < v → Writes pass (Known s t) (item items (at_least t v ∷ []) p) s at p out out (Next at)
+  pub item-absent : (out : List ℕ) → get_or s t 0 < v → Writes pass (Known s t) (item items (at_least t v ∷ []) p) s at p out out (Some at)
   item-absent out h =
       record {
         size = refl;

@@ -1,6 +1,6 @@
 -- Writing, row by row: laws over the rows that a walk passes, whichever of the two it is.
 -- Assumes nothing.
-use Rattle.std.proofs.Common.{◌≡◌, ℕ, suc, ◌+◌, ◌-◌, ◌*◌, ◌%◌, ◌^◌, ◌<◌, ◌≤◌, Bool, true, false, ◌&&◌, ltb, leb, ◌⊎◌, List, [], ◌∷◌, ◌++◌, length, get_or, take, drop, set, sym, refl, ap, ◌∙◌, subst, ap₂, inl, inr, append_assoc, append-nil, add-zero, add_assoc, add-one, arith, length-append, length-set, take-append-drop, length-take-le, get_or-drop, take-suc, take-take, drop-drop, take-suc-set, take_at, drop-set-lt, drop_at, le-ltb, lt-ltb, le-leb, leb-true}
+use Rattle.std.proofs.Common.{◌≡◌, ℕ, suc, ◌+◌, ◌-◌, ◌*◌, ◌%◌, ◌^◌, ◌<◌, ◌≤◌, Bool, true, false, ◌&&◌, ltb, leb, ◌⊎◌, Option, Some, None, List, [], ◌∷◌, ◌++◌, length, get_or, take, drop, set, sym, refl, ap, ◌∙◌, subst, ap₂, inl, inr, append_assoc, append-nil, add-zero, add_assoc, add-one, arith, length-append, length-set, take-append-drop, length-take-le, get_or-drop, take-suc, take-take, drop-drop, take-suc-set, take_at, drop-set-lt, drop_at, le-ltb, lt-ltb, le-leb, leb-true}
 use mathlib.Core.List.{tail}
 use lib.Seq.{take-set-le, drop-nil}
 use Rattle.bits.specs.Bits.{digits, bits_of}
@@ -9,8 +9,6 @@ use Rattle.bits.proofs.Laws.{length_digits, length-bits_of, length-put_at, put-b
 use Rattle.refusal.specs.declared.Refusal.{Refusal}
 use Rattle.writing.specs.declared.Pass.{Pass}
 use Rattle.writing.specs.declared.Pass.TheVariants.{Judge, Lay}
-use Rattle.writing.specs.declared.Put.{Put}
-use Rattle.writing.specs.declared.Put.TheVariants.{Next, Bad}
 use Rattle.layout.specs.Row.{Row, Condition, holds, all, nothing, bare, present, there}
 use Rattle.layout.specs.Write.{Laid, held, lay, good, good_but_group, vals, emit}
 use Rattle.layout.specs.Shape.{row}
@@ -144,19 +142,19 @@ module _ (pass : Pass) (a b : List Laid) (n m at at₁ at₂ p : ℕ) (vs vs₁ 
       }
 
 -- over no rows nothing happens
-pub lays-none : (pass : Pass) (s : List ℕ) (at p : ℕ) (vs out : List ℕ) → Lays pass [] s at p vs vs out out (Next at)
+pub lays-none : (pass : Pass) (s : List ℕ) (at p : ℕ) (vs out : List ℕ) → Lays pass [] s at p vs vs out out (Some at)
 unfolding lay
 lays-none pass s at p vs out = record { size = refl; ends = (lies-none pass at p vs out, finds pass refl) }
 
 -- the passing of rows after rows
 module _ (pass : Pass) (a b : List Row) (s : List ℕ) (at at₁ p : ℕ) (vs vs₁ vs₂ out out₁ out₂ : List ℕ)
-    (f : Lays pass a s at p vs vs₁ out out₁ (Next at₁)) where
+    (f : Lays pass a s at p vs vs₁ out out₁ (Some at₁)) where
   parts : lay a (take p vs) (drop p s) ++ lay b (take (p + length a) vs₁) (drop (p + length a) s) ≡ lay (a ++ b) (take p vs) (drop p s)
   parts =
       ap₂ (λ (done rest : List ℕ). lay a (take p vs) (drop p s) ++ lay b done rest) f.ends.0.front (sym (drop-drop (length a) p s))
       ∙ sym (lay-append a b (take p vs) (drop p s))
 
-  pub lays-on : (r : Put) → Lays pass b s at₁ (p + length a) vs₁ vs₂ out₁ out₂ r → Lays pass (a ++ b) s at p vs vs₂ out out₂ r
+  pub lays-on : (r : Option ℕ) → Lays pass b s at₁ (p + length a) vs₁ vs₂ out₁ out₂ r → Lays pass (a ++ b) s at p vs vs₂ out out₂ r
   lays-on r g =
       record {
         size = g.size ∙ f.size;
@@ -169,17 +167,17 @@ module _ (pass : Pass) (a b : List Row) (s : List ℕ) (at at₁ p : ℕ) (vs vs
       two : List Laid
       two = lay b (take (p + length a) vs₁) (drop (p + length a) s)
 
-      go : (r : Put) → Ends pass two (length b) at₁ (p + length a) vs₁ vs₂ out₁ out₂ r → Ends pass (one ++ two) (length (a ++ b)) at p vs vs₂ out out₂ r
-      go (Next at₂) g = (
+      go : (r : Option ℕ) → Ends pass two (length b) at₁ (p + length a) vs₁ vs₂ out₁ out₂ r → Ends pass (one ++ two) (length (a ++ b)) at p vs vs₂ out out₂ r
+      go (Some at₂) g = (
         subst (λ (n : ℕ). Lies pass (one ++ two) n at at₂ p vs vs₂ out out₂) (sym (length-append a b))
             (lies-join pass one two (length a) (length b) at at₁ at₂ p vs vs₁ vs₂ out out₁ out₂ f.ends.0 g.0),
         finds-join pass one two f.ends.1 g.1,
       )
-      go Bad g = all_append good_but_group one two ∙ ap (λ (t : Bool). all good_but_group one && t) g ∙ and-false (all good_but_group one)
+      go None g = all_append good_but_group one two ∙ ap (λ (t : Bool). all good_but_group one && t) g ∙ and-false (all good_but_group one)
 
 -- what is bad in the first rows is bad in all
-pub lays-stop : (pass : Pass) (a b : List Row) (s : List ℕ) (at p : ℕ) (vs vs₁ out out₁ : List ℕ) → Lays pass a s at p vs vs₁ out out₁ Bad
-    → Lays pass (a ++ b) s at p vs vs₁ out out₁ Bad
+pub lays-stop : (pass : Pass) (a b : List Row) (s : List ℕ) (at p : ℕ) (vs vs₁ out out₁ : List ℕ) → Lays pass a s at p vs vs₁ out out₁ None
+    → Lays pass (a ++ b) s at p vs vs₁ out out₁ None
 lays-stop pass a b s at p vs vs₁ out out₁ f =
     let one = lay a (take p vs) (drop p s) in
     let two = lay b (take p vs ++ vals one) (drop (length a) (drop p s)) in
@@ -193,7 +191,7 @@ lays-stop pass a b s at p vs vs₁ out out₁ f =
 -- ---- one row
 module _ (pass : Pass) (r : Row) (s : List ℕ) (at p : ℕ) (vs out : List ℕ) (inside : p < length vs) where
   -- a row that is not there: its place, which holds 0, is passed
-  pub lay-off : present (take p vs) r.hang ≡ false → get_or vs p 0 ≡ 0 → Lays pass (r ∷ []) s at p vs vs out out (Next at)
+  pub lay-off : present (take p vs) r.hang ≡ false → get_or vs p 0 ≡ 0 → Lays pass (r ∷ []) s at p vs vs out out (Some at)
   unfolding lay vals emit digits
   lay-off e z =
       let front : take (p + 1) vs ≡ take p vs ++ (0 ∷ []) = rw (add-one p, take-suc vs p 0 inside, z) in
@@ -219,13 +217,13 @@ module _ (pass : Pass) (r : Row) (s : List ℕ) (at p : ℕ) (vs out : List ℕ)
     one = rw (e, get_or-drop p s 0 0, add-zero p, h)
 
     lay-next : (out' : List ℕ) → Does pass (here ∷ []) at out out' → Finds pass (good here ≡ true)
-        → Lays pass (r ∷ []) s at p vs (set vs p v) out out' (Next (at + r.width))
+        → Lays pass (r ∷ []) s at p vs (set vs p v) out out' (Some (at + r.width))
     unfolding vals emit
     lay-next out' d g =
         let bits = digits r.width (v - r.first) in
         record {
           size = length-set vs p v;
-          ends = subst (λ (l : List Laid). Ends pass l 1 at p vs (set vs p v) out out' (Next (at + r.width))) (sym one) (
+          ends = subst (λ (l : List Laid). Ends pass l 1 at p vs (set vs p v) out out' (Some (at + r.width))) (sym one) (
             record {
               on = ap (λ (n : ℕ). at + n) (sym (ap length (append-nil bits) ∙ length_digits r.width (v - r.first)));
               front = rw (add-one p, take-suc-set vs p v inside);
@@ -241,7 +239,7 @@ module _ (pass : Pass) (r : Row) (s : List ℕ) (at p : ℕ) (vs out : List ℕ)
         found Judge g = rw g
         found Lay g = tt
 
-    lay-bad : good_but_group here ≡ false → Lays pass (r ∷ []) s at p vs (set vs p v) out out Bad
+    lay-bad : good_but_group here ≡ false → Lays pass (r ∷ []) s at p vs (set vs p v) out out None
     lay-bad g = record { size = length-set vs p v; ends = ap (all good_but_group) one ∙ rw g }
 
 -- ---- a row is laid under more conditions, which hold, as it is laid without
@@ -251,9 +249,9 @@ unfolding lay present
 lay-under w first codes n back own hang more done s e = rw (all_append (holds done) own hang, e, and-true (all (holds done) own))
 
 -- ---- the passing of rows is a walk
-abbrev pub Stop : Put → Type 0
-Stop (Next at) = ⊥
-Stop Bad = Unit {0}
+abbrev pub Stop : Option ℕ → Type 0
+Stop (Some at) = ⊥
+Stop None = Unit {0}
 
 -- the cleaned record so far, and the bytes lent
 pub record Kept : Type 0 where
@@ -264,18 +262,18 @@ abbrev pub kept : List ℕ → List ℕ → Kept
 kept vs out = record { vs = vs; out = out }
 
 module _ (pass : Pass) (s : List ℕ) where
-  abbrev pub Goes : List Row → ℕ → ℕ → Kept → Kept → Put → Type 0
+  abbrev pub Goes : List Row → ℕ → ℕ → Kept → Kept → Option ℕ → Type 0
   Goes rows at p x y r = Lays pass rows s at p x.vs y.vs x.out y.out r
 
-  pub told : (r : Put) → ((at : ℕ) × (r ≡ Next at)) ⊎ Stop r
-  told (Next at) = inl (at, refl)
-  told Bad = inr tt
+  pub told : (r : Option ℕ) → ((at : ℕ) × (r ≡ Some at)) ⊎ Stop r
+  told (Some at) = inl (at, refl)
+  told None = inr tt
 
-  pub after : (a b : List Row) (at p : ℕ) (x y : Kept) (r : Put) → Stop r → Goes a at p x y r → Goes (a ++ b) at p x y r
-  after a b at p x y Bad h f = lays-stop pass a b s at p x.vs y.vs x.out y.out f
-  after a b at p x y (Next at₁) h f = absurd h
+  pub after : (a b : List Row) (at p : ℕ) (x y : Kept) (r : Option ℕ) → Stop r → Goes a at p x y r → Goes (a ++ b) at p x y r
+  after a b at p x y None h f = lays-stop pass a b s at p x.vs y.vs x.out y.out f
+  after a b at p x y (Some at₁) h f = absurd h
 
-  pub under : (w first codes : ℕ) (n : Refusal) (back : ℕ) (own hang : List Condition) (more : List Row) (at p : ℕ) (x y : Kept) (r : Put)
+  pub under : (w first codes : ℕ) (n : Refusal) (back : ℕ) (own hang : List Condition) (more : List Row) (at p : ℕ) (x y : Kept) (r : Option ℕ)
       → present (take p x.vs) hang ≡ true → Goes (row w first codes n back own ∷ more) at p x y r
       → Goes (row w first codes n back (own ++ hang) ∷ more) at p x y r
   under w first codes n back own hang more at p x y r e f =
@@ -289,8 +287,8 @@ module _ (pass : Pass) (s : List ℕ) where
   laying =
       record {
         State = Kept;
-        Result = Put;
-        next = Next;
+        Result = Option ℕ;
+        next = λ at. Some at;
         Stops = Stop;
         told = told;
         values = λ x. x.vs;
@@ -311,14 +309,14 @@ module _ (f : Field) (s : List ℕ) (at p : ℕ) (vs out : List ℕ) (inside : p
   abbrev value : Laid
   value = record { row = row_for f []; val = v }
 
-  pub field-good : code < f.codes → Lays Judge (row_for f [] ∷ []) s at p vs (set vs p v) out out (Next (at + f.width))
+  pub field-good : code < f.codes → Lays Judge (row_for f [] ∷ []) s at p vs (set vs p v) out out (Some (at + f.width))
   unfolding present
   field-good g =
       let a : f.first ≤ v = omega (arith, narrow.low) in
       let b : v < f.first + f.codes = omega (arith, narrow.low) in
       lay-next Judge (row_for f []) s at p vs out inside refl v (sym h) out tt (rw (le-leb f.first v a, lt-ltb v (f.first + f.codes) b))
 
-  pub field-bad : f.codes ≤ code → Lays Judge (row_for f [] ∷ []) s at p vs (set vs p v) out out Bad
+  pub field-bad : f.codes ≤ code → Lays Judge (row_for f [] ∷ []) s at p vs (set vs p v) out out None
   unfolding present
   field-bad g = lay-bad Judge (row_for f []) s at p vs out inside refl v (sym h) (go (leb f.first v) refl)
     where
@@ -328,7 +326,7 @@ module _ (f : Field) (s : List ℕ) (at p : ℕ) (vs out : List ℕ) (inside : p
           let b : f.first + f.codes ≤ v = omega (arith, narrow.low, leb-true f.first v e) in
           rw (e, le-ltb v (f.first + f.codes) b, narrow.plain)
 
-  pub field-laid : (out' : List ℕ) → out' ≡ put_at out at f.width code → Lays Lay (row_for f [] ∷ []) s at p vs (set vs p v) out out' (Next (at + f.width))
+  pub field-laid : (out' : List ℕ) → out' ≡ put_at out at f.width code → Lays Lay (row_for f [] ∷ []) s at p vs (set vs p v) out out' (Some (at + f.width))
   unfolding present emit
   field-laid out' e = lay-next Lay (row_for f []) s at p vs out inside refl v (sym h) out' does tt
     where

@@ -1,9 +1,7 @@
 -- The writer's loop over the items of a list: what it keeps from turn to turn, after whatever cleaned record holds the count as the caller's does.
 -- Assumes nothing.
-use Rattle.std.proofs.Common.{◌≡◌, ℕ, suc, ◌+◌, ◌*◌, ◌<◌, ◌≤◌, List, [], ◌∷◌, length, get_or, sym, refl, ◌∙◌, subst, mul-le-mul_left, mul-zero, mul-suc, add-one, arith}
+use Rattle.std.proofs.Common.{◌≡◌, ℕ, suc, ◌+◌, ◌*◌, ◌<◌, ◌≤◌, Option, Some, None, List, [], ◌∷◌, length, get_or, sym, refl, ◌∙◌, subst, mul-le-mul_left, mul-zero, mul-suc, add-one, arith}
 use Rattle.writing.specs.declared.Pass.{Pass}
-use Rattle.writing.specs.declared.Put.{Put}
-use Rattle.writing.specs.declared.Put.TheVariants.{Next, Bad}
 use Rattle.layout.specs.Row.{Row, at_least}
 use Rattle.layout.specs.Shape.{least, times, stride, item, repeated, rows_of}
 use Rattle.layout.specs.Frame.{places}
@@ -54,7 +52,7 @@ module _ {pass : Pass} {items : Items} {s : List ℕ} {from t : ℕ} {out₀ : L
         }
 
     -- all of them, where no more are to come
-    pub listed-all : Writes pass (Known s t) (repeated items t (t + 1) 0 i) s from (t + 1) out₀ out (Next at)
+    pub listed-all : Writes pass (Known s t) (repeated items t (t + 1) 0 i) s from (t + 1) out₀ out (Some at)
     listed-all =
         record {
           size = now.size;
@@ -64,7 +62,7 @@ module _ {pass : Pass} {items : Items} {s : List ℕ} {from t : ℕ} {out₀ : L
         }
 
     -- an item more, or one that stops the list
-    module _ {out₁ : List ℕ} {r : Put} (f : Writes pass (Known s t) (item_at items t p i) s at p out out₁ r) where
+    module _ {out₁ : List ℕ} {r : Option ℕ} (f : Writes pass (Known s t) (item_at items t p i) s at p out out₁ r) where
       next : (vs₀ : List ℕ) → length vs₀ ≡ places → Clear vs₀ (t + 1) → Known s t vs₀
           → (vs vs₁ : List ℕ) × Listing (laying pass s) items from t (kept vs₀ out₀) (kept vs out) at p i
           × (laying pass s).Goes (item_at items t p i) at p (kept vs out) (kept vs₁ out₁) r
@@ -72,13 +70,13 @@ module _ {pass : Pass} {items : Items} {s : List ℕ} {from t : ℕ} {out₀ : L
           let rest = now.so_far vs₀ size z k in
           let vs = rest.0 in
           let rows = repeated items t (t + 1) 0 i in
-          let same = value_before (laying pass s) rows from at (t + 1) (kept vs₀ out₀) (kept vs out) (Next at) refl rest.1.goes t (omega arith) in
+          let same = value_before (laying pass s) rows from at (t + 1) (kept vs₀ out₀) (kept vs out) (Some at) refl rest.1.goes t (omega arith) in
           let one = f.lays vs (rest.1.size ∙ size) rest.1.clear (same ∙ k) in
           (vs, one.0, rest.1, one.1)
 
-      pub listed_more : (at₁ w : ℕ) → r ≡ Next at₁ → w ≡ stride items → Listed pass items s from t out₀ out₁ at₁ (p + w) (i + 1)
+      pub listed_more : (at₁ w : ℕ) → r ≡ Some at₁ → w ≡ stride items → Listed pass items s from t out₀ out₁ at₁ (p + w) (i + 1)
       listed_more at₁ w e l =
-          let on : at₁ ≤ at + 32 * length (item_at items t p i) = subst (λ (x : Put). Within x (at + 32 * length (item_at items t p i))) e f.within in
+          let on : at₁ ≤ at + 32 * length (item_at items t p i) = subst (λ (x : Option ℕ). Within x (at + 32 * length (item_at items t p i))) e f.within in
           record {
             place = omega (arith, now.place, add-one i, mul-suc (stride items) i);
             size = f.size ∙ now.size;
@@ -89,7 +87,7 @@ module _ {pass : Pass} {items : Items} {s : List ℕ} {from t : ℕ} {out₀ : L
                 (n.1, listing-more (laying pass s) items from t (kept vs₀ out₀) (kept n.0 out) (kept n.1 out₁) at p i r n.2 n.3 at₁ w e l);
           }
 
-      pub listed-stop : (m : ℕ) → r ≡ Bad → i < m → Writes pass (Known s t) (repeated items t (t + 1) 0 m) s from (t + 1) out₀ out₁ Bad
+      pub listed-stop : (m : ℕ) → r ≡ None → i < m → Writes pass (Known s t) (repeated items t (t + 1) 0 m) s from (t + 1) out₀ out₁ None
       listed-stop m e h =
           record {
             size = f.size ∙ now.size;
@@ -97,21 +95,21 @@ module _ {pass : Pass} {items : Items} {s : List ℕ} {from t : ℕ} {out₀ : L
             within = tt;
             lays = λ vs₀ size z k.
                 let n = next vs₀ size z k in
-                (n.1, listing-stop (laying pass s) items from t (kept vs₀ out₀) (kept n.0 out) (kept n.1 out₁) at p i r n.2 n.3 Bad m e tt h);
+                (n.1, listing-stop (laying pass s) items from t (kept vs₀ out₀) (kept n.0 out) (kept n.1 out₁) at p i r n.2 n.3 None m e tt h);
           }
 
 -- ---- the count, then the items
-module _ (items : Items) (s : List ℕ) (p : ℕ) {pass : Pass} {at : ℕ} {out out₁ : List ℕ} {r₁ : Put} {f : Field} (count : f ≡ count_field items)
+module _ (items : Items) (s : List ℕ) (p : ℕ) {pass : Pass} {at : ℕ} {out out₁ : List ℕ} {r₁ : Option ℕ} {f : Field} (count : f ≡ count_field items)
     (passed : Passes pass f (get_or s p 0) at out out₁ r₁) (inside : p < places) where
   counted : Passes pass (count_field items) (get_or s p 0) at out out₁ r₁
   counted = subst (λ (g : Field). Passes pass g (get_or s p 0) at out out₁ r₁) count passed
 
-  pub list-then : (at₁ : ℕ) (out₂ : List ℕ) (r : Put) → r₁ ≡ Next at₁
+  pub list-then : (at₁ : ℕ) (out₂ : List ℕ) (r : Option ℕ) → r₁ ≡ Some at₁
       → Writes pass (Known s p) (repeated items p (p + 1) 0 (times items)) s at₁ (p + 1) out₁ out₂ r
       → Writes pass Any (rows_of (shape.List items) [] p) s at p out out₂ r
   unfolding rows_of
   list-then at₁ out₂ r = field-then counted inside refl at₁ (repeated items p (p + 1) 0 (times items)) out₂ r Any refl
 
-  pub list-bad : r₁ ≡ Bad → Writes pass Any (rows_of (shape.List items) [] p) s at p out out₁ Bad
+  pub list-bad : r₁ ≡ None → Writes pass Any (rows_of (shape.List items) [] p) s at p out out₁ None
   unfolding rows_of
   list-bad = field-stop counted inside refl (repeated items p (p + 1) 0 (times items)) Any

@@ -1,11 +1,12 @@
 -- An element's rows, passed: what a shape finds, under its line's conditions or without.
 -- Assumes nothing.
-use Rattle.std.proofs.Common.{◌≡◌, ℕ, zero, suc, ◌+◌, ◌*◌, ◌^◌, ◌<◌, ◌≤◌, Bool, true, false, cond, T, eqb, ltb, leb, ◌⊎◌, List, [], ◌∷◌, ◌++◌, length, get_or, take, drop, sym, refl, ap, ◌∙◌, subst, inl, inr, add-zero, add-one, arith, length-take-le, get_or-drop, get_or-take, take-suc, leb-true}
+use Rattle.std.proofs.Common.{◌≡◌, ℕ, zero, suc, ◌+◌, ◌*◌, ◌^◌, ◌<◌, ◌≤◌, Bool, true, false, cond, T, eqb, ltb, leb, ◌⊎◌, Option, Some, None, List, [], ◌∷◌, ◌++◌, length, get_or, take, drop, sym, refl, ap, ◌∙◌, subst, inl, inr, add-zero, add-one, arith, length-take-le, get_or-drop, get_or-take, take-suc, leb-true}
 use mathlib.Core.List.{tail}
 use native.Mathlib.Decide.{dec_lt}
 use lib.Seq.{get_or_at}
 use Rattle.refusal.specs.declared.Refusal.{Refusal}
-use Rattle.refusal.specs.declared.Refusal.TheVariants.{Reserved, NoGroup, NothingFollows, TypeThree}
+use Rattle.refusal.specs.declared.Refusal.TheVariants.{Reserved, NothingFollows, TypeThree}
+use Rattle.refusal.specs.declared.Refusal.TheVariants as refusal
 use Rattle.refusal.specs.Number.{number_of}
 use Rattle.bits.specs.Bits.{digits}
 use Rattle.layout.specs.Row.{Row, Condition, is, nothing_since, all, present, nothing, bare}
@@ -23,12 +24,8 @@ use Rattle.layout.specs.declared.Shape.TheVariants.{Number, Choice, Identity, En
 use Rattle.layout.specs.declared.Shape.TheVariants as shape
 use Rattle.writing.specs.declared.Pass.{Pass}
 use Rattle.writing.specs.declared.Pass.TheVariants.{Judge, Lay}
-use Rattle.writing.specs.declared.Put.{Put}
-use Rattle.writing.specs.declared.Put.TheVariants.{Next}
-use Rattle.writing.specs.declared.Put.TheVariants as put
 use Rattle.writing.specs.declared.Passed.{Passed}
-use Rattle.writing.specs.declared.Passed.TheVariants.{Empty, Held}
-use Rattle.writing.specs.declared.Passed.TheVariants as passed
+use Rattle.writing.specs.declared.Passed.TheVariants.{Empty, Held, NoGroup}
 use Rattle.writing.specs.Lay.{Does, Finds, Lies, Lays, Ready, Any, Writes}
 use Rattle.writing.specs.Found.{PassedWithin, Looks, LooksAlong, Found, Puts, found_of, barred_of}
 use Rattle.writing.proofs.LayLaws.{finds, lay-under, over_none, kept, laying}
@@ -41,7 +38,7 @@ module _ (c : Row) (more : List Row) (plain : c.hang ≡ []) where
   first-laid done s = rw plain
 
   module _ (pass : Pass) (s : List ℕ) (at at' p : ℕ) (vs vs' out out' : List ℕ) (inside : p < length vs)
-      (f : Lays pass (c ∷ more) s at p vs vs' out out' (Next at')) where
+      (f : Lays pass (c ∷ more) s at p vs vs' out out' (Some at')) where
     here : held c (get_or (drop p s) 0 0) ≡ held c (get_or s p 0)
     here = ap (held c) (get_or-drop p s 0 0 ∙ ap (λ (q : ℕ). get_or s q 0) (add-zero p))
 
@@ -82,27 +79,27 @@ module _ (c : Row) (more : List Row) (plain : c.hang ≡ []) where
         go Lay g = tt
 
 -- ---- by the value at its first place
-pub found-empty : {x : Put} {at v : ℕ} → x ≡ Next at → v ≡ 0 → Empty at ≡ found_of x v
+pub found-empty : {x : Option ℕ} {at v : ℕ} → x ≡ Some at → v ≡ 0 → Some (Empty at) ≡ found_of x v
 found-empty e d = rw (e, d)
 
-pub found-held : {x : Put} {at v : ℕ} → x ≡ Next at → (v ≡ 0 → ⊥) → Held at ≡ found_of x v
-found-held {x} {at} {v} e d = go v d ∙ ap (λ (y : Put). found_of y v) (sym e)
+pub found-held : {x : Option ℕ} {at v : ℕ} → x ≡ Some at → (v ≡ 0 → ⊥) → Some (Held at) ≡ found_of x v
+found-held {x} {at} {v} e d = go v d ∙ ap (λ (y : Option ℕ). found_of y v) (sym e)
   where
-    go : (v : ℕ) → (v ≡ 0 → ⊥) → Held at ≡ found_of (Next at) v
+    go : (v : ℕ) → (v ≡ 0 → ⊥) → Some (Held at) ≡ found_of (Some at) v
     go zero d = absurd (d refl)
     go (suc v) d = refl
 
-module _ {pass : Pass} {c : Row} {more : List Row} {s : List ℕ} {at p : ℕ} {out out' : List ℕ} {x : Put} (f : Writes pass Any (c ∷ more) s at p out out' x)
+module _ {pass : Pass} {c : Row} {more : List Row} {s : List ℕ} {at p : ℕ} {out out' : List ℕ} {x : Option ℕ} (f : Writes pass Any (c ∷ more) s at p out out' x)
     (plain : c.hang ≡ []) (one : (more ≡ []) ⊎ (0 < c.first)) (inside : p < places) where
-  pub puts-found : (known : List ℕ → Type 0) (value : ℕ) (r : Passed) → value ≡ held c (get_or s p 0) → r ≡ found_of x value
+  pub puts-found : (known : List ℕ → Type 0) (value : ℕ) (r : Option Passed) → value ≡ held c (get_or s p 0) → r ≡ found_of x value
       → Puts pass known (c ∷ more) s at p out out' r
   puts-found known value r d e = subst (Puts pass known (c ∷ more) s at p out out') (sym e) (go x value d f)
     where
-      go : (x : Put) (value : ℕ) → value ≡ held c (get_or s p 0) → Writes pass Any (c ∷ more) s at p out out' x
+      go : (x : Option ℕ) (value : ℕ) → value ≡ held c (get_or s p 0) → Writes pass Any (c ∷ more) s at p out out' x
           → Puts pass known (c ∷ more) s at p out out' (found_of x value)
-      go put.Bad value d f =
+      go None value d f =
           record { size = f.size; keeps = f.keeps; within = tt; finds = λ vs size z k. let w = f.lays vs size z tt in (w.0, w.1.size, w.1.ends) }
-      go (Next at') zero d f =
+      go (Some at') zero d f =
           record {
             size = f.size;
             keeps = f.keeps;
@@ -114,7 +111,7 @@ module _ {pass : Pass} {c : Row} {more : List Row} {s : List ℕ} {at p : ℕ} {
                   (w.1.ends, nothing-held c more plain pass s at at' p vs w.0 out out' (omega arith) w.1 (sym d) one z w.1.ends.1),
                 );
           }
-      go (Next at') (suc v) d f =
+      go (Some at') (suc v) d f =
           record {
             size = f.size;
             keeps = f.keeps;
@@ -156,27 +153,27 @@ module _ (n : Refusal) (c : Condition) (s : List ℕ) (at p : ℕ) (out : List �
         does Lay false = λ g. over_none out at
 
     -- the walk that lays passes it
-    bar-laying : (b : Bool) → present (take p vs) (c ∷ []) ≡ b → Found Lay (lay bar (take p vs) (drop p s)) 1 at p vs vs out out (Empty at)
-    bar-laying b e = subst (λ (l : List Laid). Found Lay l 1 at p vs vs out out (Empty at)) (sym (bar-laid b e)) ((bar-lies Lay b, tt), tt)
+    bar-laying : (b : Bool) → present (take p vs) (c ∷ []) ≡ b → Found Lay (lay bar (take p vs) (drop p s)) 1 at p vs vs out out (Some (Empty at))
+    bar-laying b e = subst (λ (l : List Laid). Found Lay l 1 at p vs vs out out (Some (Empty at))) (sym (bar-laid b e)) ((bar-lies Lay b, tt), tt)
 
-    bar-off : present (take p vs) (c ∷ []) ≡ false → Found Judge (lay bar (take p vs) (drop p s)) 1 at p vs vs out out (Empty at)
-    bar-off e = subst (λ (l : List Laid). Found Judge l 1 at p vs vs out out (Empty at)) (sym (bar-laid false e)) ((bar-lies Judge false, refl), z)
+    bar-off : present (take p vs) (c ∷ []) ≡ false → Found Judge (lay bar (take p vs) (drop p s)) 1 at p vs vs out out (Some (Empty at))
+    bar-off e = subst (λ (l : List Laid). Found Judge l 1 at p vs vs out out (Some (Empty at))) (sym (bar-laid false e)) ((bar-lies Judge false, refl), z)
 
     pub bar-bad : eqb (number_of n) 5 ≡ false → present (take p vs) (c ∷ []) ≡ true
-        → Found Judge (lay bar (take p vs) (drop p s)) 1 at p vs vs out out passed.Bad
+        → Found Judge (lay bar (take p vs) (drop p s)) 1 at p vs vs out out None
     bar-bad h e = ap (all good_but_group) (bar-laid true e) ∙ rw h
 
     pub bar-group : eqb (number_of n) 5 ≡ true → present (take p vs) (c ∷ []) ≡ true
-        → Found Judge (lay bar (take p vs) (drop p s)) 1 at p vs vs out out passed.NoGroup
+        → Found Judge (lay bar (take p vs) (drop p s)) 1 at p vs vs out out (Some NoGroup)
     bar-group h e =
-        subst (λ (l : List Laid). Found Judge l 1 at p vs vs out out passed.NoGroup) (sym (bar-laid true e)) (bar-lies Judge true, refl, rw h, z)
+        subst (λ (l : List Laid). Found Judge l 1 at p vs vs out out (Some NoGroup)) (sym (bar-laid true e)) (bar-lies Judge true, refl, rw h, z)
 
   -- by the reason and the walk
-  module _ (pass : Pass) (inside : p < places) (known : List ℕ → Type 0) (reason : Bool) (refusal : Passed) (small : PassedWithin refusal (at + 32))
+  module _ (pass : Pass) (inside : p < places) (known : List ℕ → Type 0) (reason : Bool) (refusal : Option Passed) (small : PassedWithin refusal (at + 32))
       (tells : (vs : List ℕ) → Clear vs p → known vs → Finds pass (present (take p vs) (c ∷ []) ≡ reason))
       (stops : (vs : List ℕ) → p < length vs → Clear vs p → present (take p vs) (c ∷ []) ≡ true
       → Found Judge (lay bar (take p vs) (drop p s)) 1 at p vs vs out out refusal) where
-    pub puts-barred : (r : Passed) → r ≡ barred_of pass reason refusal at → Puts pass known bar s at p out out r
+    pub puts-barred : (r : Option Passed) → r ≡ barred_of pass reason refusal at → Puts pass known bar s at p out out r
     puts-barred r e = subst (Puts pass known bar s at p out out) (sym e) (go pass reason tells)
       where
         go : (pass : Pass) (b : Bool) → ((vs : List ℕ) → Clear vs p → known vs → Finds pass (present (take p vs) (c ∷ []) ≡ b))
@@ -195,7 +192,7 @@ lay-shape (Choice w n) hang p done s e = lay-under w 1 n Reserved 0 [] hang [] d
 lay-shape Identity hang p done s e = lay-under 2 1 3 Reserved 0 [] hang _ done s e
 lay-shape (shape.List items) hang p done s e = lay-under 4 1 (codes_of items) Reserved 0 [] hang _ done s e
 lay-shape Ending hang p done s e = lay-under 1 0 1 TypeThree 0 [] hang [] done s e
-lay-shape (Missing q) hang p done s e = lay-under 0 0 0 NoGroup 1 (is q No ∷ []) hang [] done s e
+lay-shape (Missing q) hang p done s e = lay-under 0 0 0 refusal.NoGroup 1 (is q No ∷ []) hang [] done s e
 lay-shape (Nothing o) hang p done s e = lay-under 0 0 0 NothingFollows 1 (nothing_since o ∷ []) hang [] done s e
 
 pub first-inside : {at p : ℕ} (x : Shape) → Ready at p (span x) → p < places
@@ -210,7 +207,7 @@ module _ (pass : Pass) (line : ℕ) (s : List ℕ) (last at p : ℕ) where
   abbrev hang : List Condition
   hang = hang_of line
 
-  pub element-puts : (x : Shape) {out out' : List ℕ} {r : Passed} → x ≡ shape_of line → present s hang ≡ true
+  pub element-puts : (x : Shape) {out out' : List ℕ} {r : Option Passed} → x ≡ shape_of line → present s hang ≡ true
       → Puts pass (Looks pass s last p x) (rows_of x [] p) s at p out out' r
       → Puts pass (LooksAlong pass s last p line) (rows_of (shape_of line) hang p) s at p out out' r
   element-puts x {out} {out'} {r} d on f = subst (λ (y : Shape). Puts pass (LooksAlong pass s last p line) (rows_of y hang p) s at p out out' r) d under
@@ -235,7 +232,7 @@ module _ (pass : Pass) (line : ℕ) (s : List ℕ) (last at p : ℕ) where
           }
 
   pub element-off : (out : List ℕ) → present s hang ≡ false → p + span (shape_of line) ≤ places
-      → Puts pass (LooksAlong pass s last p line) (rows_of (shape_of line) hang p) s at p out out (Empty at)
+      → Puts pass (LooksAlong pass s last p line) (rows_of (shape_of line) hang p) s at p out out (Some (Empty at))
   element-off out off room =
       record {
         size = refl;

@@ -1,9 +1,7 @@
 -- The parts of the writer, one behind the other: a field, then rows that look at it; what the next part starts from.
 -- Assumes nothing.
-use Rattle.std.proofs.Common.{◌≡◌, ℕ, suc, ◌+◌, ◌*◌, ◌<◌, ◌≤◌, List, [], ◌∷◌, length, get_or, set, ◌∙◌, subst, arith, length-set, get_or-set_other, get_or-set_same}
+use Rattle.std.proofs.Common.{◌≡◌, ℕ, suc, ◌+◌, ◌*◌, ◌<◌, ◌≤◌, Option, Some, None, List, [], ◌∷◌, length, get_or, set, ◌∙◌, subst, arith, length-set, get_or-set_other, get_or-set_same}
 use Rattle.writing.specs.declared.Pass.{Pass}
-use Rattle.writing.specs.declared.Put.{Put}
-use Rattle.writing.specs.declared.Put.TheVariants.{Next, Bad}
 use Rattle.layout.specs.Row.{Row}
 use Rattle.layout.specs.Frame.{places}
 use Rattle.layout.specs.Write.{held}
@@ -20,20 +18,20 @@ ready-most now = omega (arith, now.low, now.room)
 pub ready-few : {at p n : ℕ} (m : ℕ) → Ready at p n → m ≤ n → Ready at p m
 ready-few m now h = record { room = omega (arith, now.room); low = now.low }
 
-pub ready-next : (at at₁ p n k m : ℕ) (r : Put) → Ready at p n → r ≡ Next at₁ → Within r (at + 32 * k) → k + m ≤ n → Ready at₁ (p + k) m
+pub ready-next : (at at₁ p n k m : ℕ) (r : Option ℕ) → Ready at p n → r ≡ Some at₁ → Within r (at + 32 * k) → k + m ≤ n → Ready at₁ (p + k) m
 ready-next at at₁ p n k m r now e w h =
-    let l : at₁ ≤ at + 32 * k = subst (λ (x : Put). Within x (at + 32 * k)) e w in
+    let l : at₁ ≤ at + 32 * k = subst (λ (x : Option ℕ). Within x (at + 32 * k)) e w in
     record { room = omega (arith, now.room); low = omega (arith, now.low) }
 
-pub within_on : (r : Put) (at at₁ n k m : ℕ) → n + k ≡ m → at₁ ≤ at + 32 * n → Within r (at₁ + 32 * k) → Within r (at + 32 * m)
-within_on (Next at₂) at at₁ n k m e h w = omega arith
-within_on Bad at at₁ n k m e h w = tt
+pub within_on : (r : Option ℕ) (at at₁ n k m : ℕ) → n + k ≡ m → at₁ ≤ at + 32 * n → Within r (at₁ + 32 * k) → Within r (at + 32 * m)
+within_on (Some at₂) at at₁ n k m e h w = omega arith
+within_on None at at₁ n k m e h w = tt
 
 -- ---- a value put into the cleaned record
 pub clear-set : (vs : List ℕ) (p q v : ℕ) → Clear vs p → p ≤ q → Clear (set vs q v) (q + 1)
 clear-set vs p q v z h i l = get_or-set_other vs q i v 0 (λ e. omega arith) ∙ z i (omega arith)
 
-module _ {pass : Pass} {f : Field} {v at : ℕ} {out out₁ : List ℕ} {r₁ : Put} (passed : Passes pass f v at out out₁ r₁) {s : List ℕ} {p : ℕ}
+module _ {pass : Pass} {f : Field} {v at : ℕ} {out out₁ : List ℕ} {r₁ : Option ℕ} (passed : Passes pass f v at out out₁ r₁) {s : List ℕ} {p : ℕ}
     (inside : p < places) (is : v ≡ held (row_for f []) (get_or s p 0)) where
   here : (vs : List ℕ) → length vs ≡ places → Lays pass (row_for f [] ∷ []) s at p vs (set vs p v) out out₁ r₁
   here vs size = passed.lays s vs p (omega arith) is
@@ -43,13 +41,13 @@ module _ {pass : Pass} {f : Field} {v at : ℕ} {out out₁ : List ℕ} {r₁ : 
   field-writes known = record { size = passed.size; keeps = passed.keeps; within = passed.within; lays = λ vs size z k. (set vs p v, here vs size) }
 
   -- a field, and rows that know its value
-  pub field-then : (at₁ : ℕ) (more : List Row) (out₂ : List ℕ) (r : Put) (known : List ℕ → Type 0) → v ≡ get_or s p 0 → r₁ ≡ Next at₁
+  pub field-then : (at₁ : ℕ) (more : List Row) (out₂ : List ℕ) (r : Option ℕ) (known : List ℕ → Type 0) → v ≡ get_or s p 0 → r₁ ≡ Some at₁
       → Writes pass (Known s p) more s at₁ (p + 1) out₁ out₂ r → Writes pass known (row_for f [] ∷ more) s at p out out₂ r
   field-then at₁ more out₂ r known d e g =
       record {
         size = g.size ∙ passed.size;
         keeps = keeps_on pass out out₁ out₂ passed.keeps g.keeps;
-        within = within_on r at at₁ 1 (length more) (suc (length more)) (omega arith) (subst (λ (x : Put). Within x (at + 32)) e passed.within) g.within;
+        within = within_on r at at₁ 1 (length more) (suc (length more)) (omega arith) (subst (λ (x : Option ℕ). Within x (at + 32)) e passed.within) g.within;
         lays = λ vs size z k.
             let vs₁ = set vs p v in
             let rest = g.lays vs₁ (length-set vs p v ∙ size) (clear-set vs p p v z (omega arith)) (get_or-set_same vs p v 0 (omega arith) ∙ d) in (
@@ -60,7 +58,7 @@ module _ {pass : Pass} {f : Field} {v at : ℕ} {out out₁ : List ℕ} {r₁ : 
       }
 
   -- a field that is bad stops what would follow
-  pub field-stop : (more : List Row) (known : List ℕ → Type 0) → r₁ ≡ Bad → Writes pass known (row_for f [] ∷ more) s at p out out₁ Bad
+  pub field-stop : (more : List Row) (known : List ℕ → Type 0) → r₁ ≡ None → Writes pass known (row_for f [] ∷ more) s at p out out₁ None
   field-stop more known e =
       record {
         size = passed.size;
@@ -68,7 +66,7 @@ module _ {pass : Pass} {f : Field} {v at : ℕ} {out out₁ : List ℕ} {r₁ : 
         within = tt;
         lays = λ vs size z k. (
           set vs p v,
-          (laying pass s).stop (row_for f [] ∷ []) more at p (kept vs out) (kept (set vs p v) out₁) Bad tt
+          (laying pass s).stop (row_for f [] ∷ []) more at p (kept vs out) (kept (set vs p v) out₁) None tt
               (subst (Lays pass (row_for f [] ∷ []) s at p vs (set vs p v) out out₁) e (here vs size)),
         );
       }

@@ -1,6 +1,6 @@
 -- The walk over a table's elements: what is passed so far, and what is left.
 -- Assumes nothing.
-use Rattle.std.proofs.Common.{◌≡◌, ℕ, suc, ◌+◌, ◌*◌, ◌<◌, ◌≤◌, Bool, true, false, ◌&&◌, T, List, [], ◌∷◌, ◌++◌, length, get_or, take, drop, replicate, sym, refl, ap, ◌∙◌, subst, ap₂, append_assoc, append-nil, zero-add, arith, drop_of_length-le, length-take-le, drop-drop, take_at}
+use Rattle.std.proofs.Common.{◌≡◌, ℕ, suc, ◌+◌, ◌*◌, ◌<◌, ◌≤◌, Bool, true, false, ◌&&◌, T, Option, Some, None, Ok, Err, List, [], ◌∷◌, ◌++◌, length, get_or, take, drop, replicate, sym, refl, ap, ◌∙◌, subst, ap₂, append_assoc, append-nil, zero-add, arith, drop_of_length-le, length-take-le, drop-drop, take_at}
 use lib.ListN.{length-replicate}
 use Rattle.layout.specs.declared.Element.{Element}
 use Rattle.layout.specs.declared.Kind.{Kind}
@@ -27,7 +27,7 @@ use Rattle.writing.specs.declared.Pass.TheVariants.{Judge, Lay}
 use Rattle.writing.specs.declared.Passed.{Passed}
 use Rattle.writing.specs.declared.Passed.TheVariants.{Empty, Held}
 use Rattle.writing.specs.declared.Passed.TheVariants as passed
-use Rattle.writing.specs.declared.Walked.TheVariants as walked
+use Rattle.refusal.specs.declared.Refusal.TheVariants.{Reserved, NoGroup}
 use Rattle.writing.specs.Lay.{Does, Finds, Lies, Ready}
 use Rattle.writing.specs.Found.{Looks, LooksAlong, Found, PassedWithin, Puts}
 use Rattle.writing.specs.Whole.{Outcome, Walks}
@@ -195,7 +195,7 @@ module _ {pass : Pass} {kind : Kind} {s out₀ out : List ℕ} {grouped : Bool} 
     span_same : span e.1 ≡ places_of n
     span_same = ap span (sym says.shape) ∙ sym (line-span now.placed inside says)
 
-    module _ {out' : List ℕ} {r : Passed} {w : ℕ} (f : Puts pass (LooksAlong pass s last p n) own-rows s at p out out' r) (takes : w ≡ places_of n) where
+    module _ {out' : List ℕ} {r : Option Passed} {w : ℕ} (f : Puts pass (LooksAlong pass s last p n) own-rows s at p out out' r) (takes : w ≡ places_of n) where
       after : (vs' : List ℕ) × (length vs' ≡ length now.vs) × Found pass here (length own-rows) at p now.vs vs' out out' r
       after = f.finds now.vs now.size now.clear looks-along
 
@@ -249,44 +249,44 @@ module _ {pass : Pass} {kind : Kind} {s out₀ out : List ℕ} {grouped : Bool} 
       room' : p + span e.1 ≤ length after.0
       room' = omega (arith, after.1, now.size, turn-room, span_same)
 
-      found : (x : Passed) → r ≡ x → Found pass here (length own-rows) at p now.vs after.0 out out' x
+      found : (x : Option Passed) → r ≡ x → Found pass here (length own-rows) at p now.vs after.0 out out' x
       found x e = subst (Found pass here (length own-rows) at p now.vs after.0 out out') e after.2
 
-      within : (x : Passed) → r ≡ x → PassedWithin x (at + 32 * length own-rows)
-      within x e = subst (λ (y : Passed). PassedWithin y (at + 32 * length own-rows)) e f.within
+      within : (x : Option Passed) → r ≡ x → PassedWithin x (at + 32 * length own-rows)
+      within x e = subst (λ (y : Option Passed). PassedWithin y (at + 32 * length own-rows)) e f.within
 
-      pub turn-empty : {at' : ℕ} → r ≡ Empty at' → Wrote pass kind s out₀ out' grouped last at' (p + w) (k + 1)
+      pub turn-empty : {at' : ℕ} → r ≡ Some (Empty at') → Wrote pass kind s out₀ out' grouped last at' (p + w) (k + 1)
       turn-empty {at'} d =
-          let g = found (Empty at') d in
-          more grouped last at' g.0.0 (within (Empty at') d) (fine-on pass now.fine g.0.1) (noted pass g.0.0 g.1 now.since)
+          let g = found (Some (Empty at')) d in
+          more grouped last at' g.0.0 (within (Some (Empty at')) d) (fine-on pass now.fine g.0.1) (noted pass g.0.0 g.1 now.since)
         where
           noted : (pass : Pass) → Lies pass here (length own-rows) at at' p now.vs after.0 out out' → Finds pass (Clear after.0 p)
               → Finds pass (Since es now.count now.vs p last) → Finds pass (Since es (now.count + 1) after.0 (p + span e.1) last)
           noted Judge g z a = since-empty es now.count now.vs after.0 p last e a next room' g.before z
           noted Lay g z a = tt
 
-      pub turn-held : {at' : ℕ} → r ≡ Held at' → Wrote pass kind s out₀ out' grouped (p + 1) at' (p + w) (k + 1)
+      pub turn-held : {at' : ℕ} → r ≡ Some (Held at') → Wrote pass kind s out₀ out' grouped (p + 1) at' (p + w) (k + 1)
       turn-held {at'} d =
-          let g = found (Held at') d in
-          more grouped (p + 1) at' g.0.0 (within (Held at') d) (fine-on pass now.fine g.0.1) (noted pass g.0.0 g.1 now.since)
+          let g = found (Some (Held at')) d in
+          more grouped (p + 1) at' g.0.0 (within (Some (Held at')) d) (fine-on pass now.fine g.0.1) (noted pass g.0.0 g.1 now.since)
         where
           noted : (pass : Pass) → Lies pass here (length own-rows) at at' p now.vs after.0 out out' → Finds pass (get_or after.0 p 0 ≡ 0 → ⊥)
               → Finds pass (Since es now.count now.vs p last) → Finds pass (Since es (now.count + 1) after.0 (p + span e.1) (p + 1))
           noted Judge g some a = since-held es now.count now.vs after.0 p last e a next room' g.before some
           noted Lay g some a = tt
 
-      pub turn-missing : r ≡ passed.NoGroup → Wrote pass kind s out₀ out' false last at (p + w) (k + 1)
+      pub turn-missing : r ≡ Some passed.NoGroup → Wrote pass kind s out₀ out' false last at (p + w) (k + 1)
       turn-missing d =
-          let g = found passed.NoGroup d in
+          let g = found (Some passed.NoGroup) d in
           more false last at g.0 (omega arith) (fine-missing pass now.fine g.1 g.2) (noted pass now.since)
         where
           noted : (pass : Pass) → Finds pass (Since es now.count now.vs p last) → Finds pass (Since es (now.count + 1) after.0 (p + span e.1) last)
           noted Judge a =
-              let g = found passed.NoGroup d in
+              let g = found (Some passed.NoGroup) d in
               since-empty es now.count now.vs after.0 p last e a next room' g.0.before g.3
           noted Lay a = tt
 
-      pub turn-bad : r ≡ passed.Bad → Walks pass (laid kind s) out₀ out' walked.Reserved
+      pub turn-bad : r ≡ None → Walks pass (laid kind s) out₀ out' (Err Reserved)
       turn-bad d = record { size = f.size ∙ now.same; keeps = keeps_on pass out₀ out out' now.keeps f.keeps; outcome = outcome pass }
         where
           coded : all good_but_group (laid kind s) ≡ false
@@ -294,11 +294,11 @@ module _ {pass : Pass} {kind : Kind} {s out₀ out : List ℕ} {grouped : Bool} 
               let rest = lay later (take p now.vs ++ vals here) (drop (length own-rows) (drop p s)) in
               ap (all good_but_group) split ∙ all_append good_but_group now.done (here ++ rest)
               ∙ ap (λ (b : Bool). all good_but_group now.done && b)
-              (all_append good_but_group here rest ∙ ap (λ (b : Bool). b && all good_but_group rest) (found passed.Bad d))
+              (all_append good_but_group here rest ∙ ap (λ (b : Bool). b && all good_but_group rest) (found None d))
               ∙ and-false (all good_but_group now.done)
 
-          outcome : (pass : Pass) → Outcome pass (laid kind s) out₀ out' walked.Reserved
-          outcome Judge = coded
+          outcome : (pass : Pass) → Outcome pass (laid kind s) out₀ out' (Err Reserved)
+          outcome Judge = (not_good (laid kind s) coded, rw coded)
           outcome Lay = λ g. clash (laid kind s) g (not_good (laid kind s) coded)
 
   -- ---- after the last element
@@ -314,22 +314,21 @@ module _ {pass : Pass} {kind : Kind} {s out₀ out : List ℕ} {grouped : Bool} 
     laid-over : (pass : Pass) → Lies pass now.done p head_bits at 0 (replicate places 0) now.vs out₀ out → Does pass (laid kind s) head_bits out₀ out
     laid-over pass f = subst (λ (l : List Laid). Does pass l head_bits out₀ out) (sym all_done) f.does
 
-    pub wrote-bits : grouped ≡ true → Walks pass (laid kind s) out₀ out (walked.Bits at)
+    pub wrote-bits : grouped ≡ true → Walks pass (laid kind s) out₀ out (Ok at)
     wrote-bits g = record { size = now.same; keeps = now.keeps; outcome = outcome pass now.lies now.fine }
       where
         outcome : (pass : Pass) → Lies pass now.done p head_bits at 0 (replicate places 0) now.vs out₀ out → Fine pass now.done grouped
-            → Outcome pass (laid kind s) out₀ out (walked.Bits at)
+            → Outcome pass (laid kind s) out₀ out (Ok at)
         outcome Judge f a = (
           ap (all good) all_done ∙ a.0 ∙ g,
           f.on ∙ ap (λ (l : List Laid). head_bits + length (emit l)) (sym all_done),
-          omega (arith, now.low, now.placed.room),
         )
         outcome Lay f a = laid-over Lay f
 
-    pub wrote-group : grouped ≡ false → Walks pass (laid kind s) out₀ out walked.NoGroup
+    pub wrote-group : grouped ≡ false → Walks pass (laid kind s) out₀ out (Err NoGroup)
     wrote-group g = record { size = now.same; keeps = now.keeps; outcome = outcome pass now.lies now.fine }
       where
         outcome : (pass : Pass) → Lies pass now.done p head_bits at 0 (replicate places 0) now.vs out₀ out → Fine pass now.done grouped
-            → Outcome pass (laid kind s) out₀ out walked.NoGroup
-        outcome Judge f a = (ap (all good) all_done ∙ a.0 ∙ g, ap (all good_but_group) all_done ∙ a.1)
+            → Outcome pass (laid kind s) out₀ out (Err NoGroup)
+        outcome Judge f a = (ap (all good) all_done ∙ a.0 ∙ g, rw (ap (all good_but_group) all_done ∙ a.1))
         outcome Lay f a = λ x. clash (laid kind s) x (ap (all good) all_done ∙ a g)

@@ -1,14 +1,10 @@
 -- Elements, part way: what the writer's parts promise of an element, by what it looks at.
 -- Assumes nothing.
-use Rattle.std.specs.Prelude.{◌≡◌, ℕ, zero, suc, ◌+◌, ◌*◌, ◌≤◌, Bool, true, false, List, length, take, drop, ◌==◌, ◌≢◌, nat_eq, nat_le, slice_index}
+use Rattle.std.specs.Prelude.{◌≡◌, ℕ, zero, suc, ◌+◌, ◌*◌, ◌≤◌, Bool, true, false, Option, Some, None, List, length, take, drop, ◌==◌, ◌≢◌, nat_eq, nat_le, slice_index}
 use Rattle.writing.specs.declared.Pass.{Pass}
 use Rattle.writing.specs.declared.Pass.TheVariants.{Judge, Lay}
-use Rattle.writing.specs.declared.Put.{Put}
-use Rattle.writing.specs.declared.Put.TheVariants.{Next}
-use Rattle.writing.specs.declared.Put.TheVariants as put
 use Rattle.writing.specs.declared.Passed.{Passed}
-use Rattle.writing.specs.declared.Passed.TheVariants.{Empty, Held}
-use Rattle.writing.specs.declared.Passed.TheVariants as passed
+use Rattle.writing.specs.declared.Passed.TheVariants.{Empty, Held, NoGroup}
 use Rattle.layout.specs.declared.Shape.{Shape}
 use Rattle.layout.specs.declared.Shape.TheVariants.{Number, Choice, Identity, Ending, Missing, Nothing}
 use Rattle.layout.specs.declared.Shape.TheVariants as shape
@@ -37,20 +33,20 @@ pub record LooksAlong (pass : Pass) (s : List ℕ) (last p line : ℕ) (vs : Lis
 
 -- how the passing of an element ends. Where it is empty, the cleaned record holds nothing from its place on; where it holds something, it does so at its place.
 -- The missing group's row has no bits
-abbrev pub Found : Pass → List Laid → ℕ → ℕ → ℕ → List ℕ → List ℕ → List ℕ → List ℕ → Passed → Type 0
-Found pass laid n at p vs vs' out out' (Empty at') = Ends pass laid n at p vs vs' out out' (Next at') × Finds pass (Clear vs' p)
-Found pass laid n at p vs vs' out out' (Held at') = Ends pass laid n at p vs vs' out out' (Next at') × Finds pass (slice_index vs' p ≢ 0)
-Found pass laid n at p vs vs' out out' passed.Bad = Ends pass laid n at p vs vs' out out' put.Bad
-Found pass laid n at p vs vs' out out' passed.NoGroup =
+abbrev pub Found : Pass → List Laid → ℕ → ℕ → ℕ → List ℕ → List ℕ → List ℕ → List ℕ → Option Passed → Type 0
+Found pass laid n at p vs vs' out out' (Some (Empty at')) = Ends pass laid n at p vs vs' out out' (Some at') × Finds pass (Clear vs' p)
+Found pass laid n at p vs vs' out out' (Some (Held at')) = Ends pass laid n at p vs vs' out out' (Some at') × Finds pass (slice_index vs' p ≢ 0)
+Found pass laid n at p vs vs' out out' None = Ends pass laid n at p vs vs' out out' None
+Found pass laid n at p vs vs' out out' (Some NoGroup) =
     Lies pass laid n at at p vs vs' out out' × (all good laid ≡ false) × (all good_but_group laid ≡ true) × Clear vs' p
 
-abbrev pub PassedWithin : Passed → ℕ → Type 0
-PassedWithin (Empty at) most = at ≤ most
-PassedWithin (Held at) most = at ≤ most
-PassedWithin passed.Bad most = Unit {0}
-PassedWithin passed.NoGroup most = Unit {0}
+abbrev pub PassedWithin : Option Passed → ℕ → Type 0
+PassedWithin (Some (Empty at)) most = at ≤ most
+PassedWithin (Some (Held at)) most = at ≤ most
+PassedWithin None most = Unit {0}
+PassedWithin (Some NoGroup) most = Unit {0}
 
-pub record Puts (pass : Pass) (known : List ℕ → Type 0) (rows : List Row) (s : List ℕ) (at p : ℕ) (out out' : List ℕ) (r : Passed) : Type 0 where
+pub record Puts (pass : Pass) (known : List ℕ → Type 0) (rows : List Row) (s : List ℕ) (at p : ℕ) (out out' : List ℕ) (r : Option Passed) : Type 0 where
   pub size : length out' ≡ length out
   pub keeps : Finds pass (out' ≡ out)
   pub within : PassedWithin r (at + 32 * length rows)
@@ -58,13 +54,13 @@ pub record Puts (pass : Pass) (known : List ℕ → Type 0) (rows : List Row) (s
       → (vs' : List ℕ) × (length vs' ≡ length vs) × Found pass (lay rows (take p vs) (drop p s)) (length rows) at p vs vs' out out' r
 
 -- by the value at its first place
-abbrev pub found_of : Put → ℕ → Passed
-found_of (Next at) zero = Empty at
-found_of (Next at) (suc v) = Held at
-found_of put.Bad v = passed.Bad
+abbrev pub found_of : Option ℕ → ℕ → Option Passed
+found_of (Some at) zero = Some (Empty at)
+found_of (Some at) (suc v) = Some (Held at)
+found_of None v = None
 
 -- a refusal, if there is a reason and the walk judges
-abbrev pub barred_of : Pass → Bool → Passed → ℕ → Passed
+abbrev pub barred_of : Pass → Bool → Option Passed → ℕ → Option Passed
 barred_of Judge true refusal at = refusal
-barred_of Judge false refusal at = Empty at
-barred_of Lay reason refusal at = Empty at
+barred_of Judge false refusal at = Some (Empty at)
+barred_of Lay reason refusal at = Some (Empty at)

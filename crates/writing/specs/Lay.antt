@@ -1,13 +1,10 @@
 -- Writing, part way: what the writer's parts promise of the rows that they pass, in either walk.
 -- The cleaned record stands in these promises alone: vs is what it holds so far. The code holds none.
 -- Assumes nothing.
-use Rattle.std.specs.Prelude.{◌≡◌, ℕ, ◌+◌, ◌*◌, ◌<◌, ◌≤◌, Bool, true, false, List, [], ◌∷◌, ◌++◌, length, take, drop, slice_index, slice_set}
+use Rattle.std.specs.Prelude.{◌≡◌, ℕ, ◌+◌, ◌*◌, ◌<◌, ◌≤◌, Bool, true, false, Option, Some, None, List, [], ◌∷◌, ◌++◌, length, take, drop, slice_index, slice_set}
 use Rattle.bits.specs.Bits.{bits_of}
 use Rattle.writing.specs.declared.Pass.{Pass}
 use Rattle.writing.specs.declared.Pass.TheVariants.{Judge, Lay}
-use Rattle.writing.specs.declared.Put.{Put}
-use Rattle.writing.specs.declared.Put.TheVariants.{Next}
-use Rattle.writing.specs.declared.Put.TheVariants as put
 use Rattle.layout.specs.Row.{Row, all}
 use Rattle.layout.specs.Frame.{places, head_bits}
 use Rattle.layout.specs.Write.{Laid, held, lay, good, good_but_group, vals, emit}
@@ -45,20 +42,20 @@ pub record Lies (pass : Pass) (laid : List Laid) (n at at' p : ℕ) (vs vs' out 
   pub does : Does pass laid at out out'
 
 -- how the passing of rows ends
-abbrev pub Ends : Pass → List Laid → ℕ → ℕ → ℕ → List ℕ → List ℕ → List ℕ → List ℕ → Put → Type 0
-Ends pass laid n at p vs vs' out out' (Next at') = Lies pass laid n at at' p vs vs' out out' × Finds pass (all good laid ≡ true)
-Ends pass laid n at p vs vs' out out' put.Bad = all good_but_group laid ≡ false
+abbrev pub Ends : Pass → List Laid → ℕ → ℕ → ℕ → List ℕ → List ℕ → List ℕ → List ℕ → Option ℕ → Type 0
+Ends pass laid n at p vs vs' out out' (Some at') = Lies pass laid n at at' p vs vs' out out' × Finds pass (all good laid ≡ true)
+Ends pass laid n at p vs vs' out out' None = all good_but_group laid ≡ false
 
 -- rows that begin at the place p, passed with the values s from there on, after the cleaned record vs
-pub record Lays (pass : Pass) (rows : List Row) (s : List ℕ) (at p : ℕ) (vs vs' out out' : List ℕ) (r : Put) : Type 0 where
+pub record Lays (pass : Pass) (rows : List Row) (s : List ℕ) (at p : ℕ) (vs vs' out out' : List ℕ) (r : Option ℕ) : Type 0 where
   pub size : length vs' ≡ length vs
   pub ends : Ends pass (lay rows (take p vs) (drop p s)) (length rows) at p vs vs' out out' r
 
 -- ---- what the parts promise
 -- the next bit, where there is one, is not behind this
-abbrev pub Within : Put → ℕ → Type 0
-Within (Next at) most = at ≤ most
-Within put.Bad most = Unit {0}
+abbrev pub Within : Option ℕ → ℕ → Type 0
+Within (Some at) most = at ≤ most
+Within None most = Unit {0}
 
 -- where the parts start from, with n places left to go over
 pub record Ready (at p n : ℕ) : Type 0 where
@@ -66,7 +63,7 @@ pub record Ready (at p n : ℕ) : Type 0 where
   pub low : at ≤ 32 * p + head_bits
 
 -- a field's value, wherever it stands
-pub record Passes (pass : Pass) (f : Field) (v at : ℕ) (out out' : List ℕ) (r : Put) : Type 0 where
+pub record Passes (pass : Pass) (f : Field) (v at : ℕ) (out out' : List ℕ) (r : Option ℕ) : Type 0 where
   pub size : length out' ≡ length out
   pub keeps : Finds pass (out' ≡ out)
   pub within : Within r (at + 32)
@@ -79,7 +76,7 @@ Any vs = Unit {0}
 abbrev pub Known : List ℕ → ℕ → List ℕ → Type 0
 Known s q vs = slice_index vs q ≡ slice_index s q
 
-pub record Writes (pass : Pass) (known : List ℕ → Type 0) (rows : List Row) (s : List ℕ) (at p : ℕ) (out out' : List ℕ) (r : Put) : Type 0 where
+pub record Writes (pass : Pass) (known : List ℕ → Type 0) (rows : List Row) (s : List ℕ) (at p : ℕ) (out out' : List ℕ) (r : Option ℕ) : Type 0 where
   pub size : length out' ≡ length out
   pub keeps : Finds pass (out' ≡ out)
   pub within : Within r (at + 32 * length rows)

@@ -10,36 +10,33 @@ ghost use Rattle.writing.specs.Found.{Puts, Looks, LooksAlong, found_of, barred_
 ghost use Rattle.writing.specs.Whole.{Walks};
 
 use crate::items::{walk_field, walk_identity, walk_list};
-use crate::{Pass, Passed, Put, Walked};
+use crate::{Pass, Passed};
 use layout::{Kind, PLACES, Shape};
+use refusal::Refusal;
 use table::coding::{IF_NO, places_of, shape_of, there};
 use table::fields::{M_BIT, choice, number};
 use table::lines::{HEAD_BITS, end_line, first_line, line};
 use table::tests::holds;
 
 // What was passed, by the value at its first place.
-fn found(put: Put, value: u32) -> Passed
+fn found(put: Option<usize>, value: u32) -> Option<Passed>
     ensures { result ≡ found_of put value }
 {
-    match put {
-        Put::Next(at) => {
-            if value == 0 {
-                Passed::Empty(at)
-            } else {
-                Passed::Held(at)
-            }
-        }
-        Put::Bad => Passed::Bad,
-    }
+    let at = put?;
+    Some(if value == 0 {
+        Passed::Empty(at)
+    } else {
+        Passed::Held(at)
+    })
 }
 
 // A refusal, if there is a reason and this is the walk that judges.
-fn barred(pass: Pass, reason: bool, refusal: Passed, at: usize) -> Passed
+fn barred(pass: Pass, reason: bool, refusal: Option<Passed>, at: usize) -> Option<Passed>
     ensures { result ≡ barred_of pass reason refusal at }
 {
     match pass {
-        Pass::Judge => if reason { refusal } else { Passed::Empty(at) },
-        Pass::Lay => Passed::Empty(at),
+        Pass::Judge if reason => refusal,
+        _ => Some(Passed::Empty(at)),
     }
 }
 
@@ -52,7 +49,7 @@ fn walk_shape(
     place: usize,
     shape: Shape,
     last: usize,
-) -> Passed
+) -> Option<Passed>
     requires { Ready at place (span shape) × T (sound shape place) }
     ensures { Puts pass (Looks pass values.now last place shape) (rows_of shape [] place) values.now at place
         out.old out.new result }
@@ -64,8 +61,8 @@ fn walk_shape(
         Shape::Identity => found(walk_identity(pass, values, out, at, place), value),
         Shape::List(items) => found(walk_list(pass, values, out, at, place, items), value),
         Shape::Ending => found(walk_field(pass, out, at, 0, M_BIT), 0),
-        Shape::Missing(q) => barred(pass, holds(values, q, IF_NO), Passed::NoGroup, at),
-        Shape::Nothing(o) => barred(pass, last <= o as usize + 1, Passed::Bad, at),
+        Shape::Missing(q) => barred(pass, holds(values, q, IF_NO), Some(Passed::NoGroup), at),
+        Shape::Nothing(o) => barred(pass, last <= o as usize + 1, None, at),
     }
 }
 
@@ -78,7 +75,7 @@ fn walk_element(
     place: usize,
     line: u64,
     last: usize,
-) -> Passed
+) -> Option<Passed>
     requires { Ready at place (span (shape_of line)) × T (sound (shape_of line) place) }
     ensures { Puts pass (LooksAlong pass values.now last place line) (rows_of (shape_of line) (hang_of line) place)
         values.now at place out.old out.new result }
@@ -86,26 +83,28 @@ fn walk_element(
     if there(values, line) {
         walk_shape(pass, values, out, at, place, shape_of(line), last)
     } else {
-        Passed::Empty(at)
+        Some(Passed::Empty(at))
     }
 }
 
-// The elements of a kind's table, after the head.
-pub fn walk_elements(pass: Pass, kind: Kind, values: &[u32; PLACES], out: &mut [u8]) -> Walked
+// The elements of a kind's table, after the head: the bit behind them, or why the record has no frame.
+pub fn walk_elements(
+    pass: Pass,
+    kind: Kind,
+    values: &[u32; PLACES],
+    out: &mut [u8],
+) -> Result<usize, Refusal>
     ensures { Walks pass (laid kind values.now) out.old out.new result }
 {
-    let end = end_line(kind);
     let mut grouped = true;
     let mut at = HEAD_BITS;
     let mut place = 0;
     let mut last = 0;
-    let mut k = first_line(kind);
-    while k < end {
+    for k in first_line(kind)..end_line(kind) {
         let element = line(k);
         let here = place;
         place += places_of(element);
-        k += 1;
-        match walk_element(pass, values, out, at, here, element, last) {
+        match walk_element(pass, values, out, at, here, element, last).ok_or(Refusal::Reserved)? {
             Passed::Empty(next) => {
                 at = next;
             }
@@ -116,14 +115,11 @@ pub fn walk_elements(pass: Pass, kind: Kind, values: &[u32; PLACES], out: &mut [
             Passed::NoGroup => {
                 grouped = false;
             }
-            Passed::Bad => {
-                return Walked::Reserved;
-            }
         }
     }
     if grouped {
-        Walked::Bits(at)
+        Ok(at)
     } else {
-        Walked::NoGroup
+        Err(Refusal::NoGroup)
     }
 }

@@ -6,7 +6,7 @@ ghost use Rattle.layout.specs.declared.Shape.TheVariants as shape;
 ghost use Rattle.table.specs.Fields.{Narrow};
 ghost use Rattle.writing.specs.Lay.{most_bits, Ready, Passes, Writes, Any, Known};
 
-use crate::{Pass, Put};
+use crate::Pass;
 use bits::put_field;
 use layout::{Items, PLACES};
 use std::num::wrapping_sub_u32;
@@ -15,7 +15,7 @@ use table::fields::{EXTENSION, FORM, LETTER, SNA, SSI, count_field};
 use table::items::{least_for, stride_of, times_of};
 
 // The value of a field that is there: judged by its codes, or laid.
-pub fn walk_field(pass: Pass, out: &mut [u8], at: usize, value: u32, field: Field) -> Put
+pub fn walk_field(pass: Pass, out: &mut [u8], at: usize, value: u32, field: Field) -> Option<usize>
     requires { Narrow field × (at ≤ most_bits) }
     ensures { Passes pass field value at out.old out.new result }
 {
@@ -24,14 +24,14 @@ pub fn walk_field(pass: Pass, out: &mut [u8], at: usize, value: u32, field: Fiel
     match pass {
         Pass::Judge => {
             if field.codes <= code {
-                Put::Bad
+                None
             } else {
-                Put::Next(at + width)
+                Some(at + width)
             }
         }
         Pass::Lay => {
             put_field(out, at, width, code);
-            Put::Next(at + width)
+            Some(at + width)
         }
     }
 }
@@ -43,7 +43,7 @@ fn walk_extension(
     out: &mut [u8],
     at: usize,
     place: usize,
-) -> Put
+) -> Option<usize>
     requires { Ready at (place + 3) 1 }
     ensures { Writes pass (Known values.now place) (drop 3 (identity [] place)) values.now at (place + 3)
         out.old out.new result }
@@ -51,12 +51,18 @@ fn walk_extension(
     if values[place] == 3 {
         walk_field(pass, out, at, values[place + 3], EXTENSION)
     } else {
-        Put::Next(at)
+        Some(at)
     }
 }
 
 // What follows an identity's form.
-fn walk_form(pass: Pass, values: &[u32; PLACES], out: &mut [u8], at: usize, place: usize) -> Put
+fn walk_form(
+    pass: Pass,
+    values: &[u32; PLACES],
+    out: &mut [u8],
+    at: usize,
+    place: usize,
+) -> Option<usize>
     requires { Ready at (place + 1) 3 }
     ensures { Writes pass (Known values.now place) (drop 1 (identity [] place)) values.now at (place + 1)
         out.old out.new result }
@@ -65,12 +71,10 @@ fn walk_form(pass: Pass, values: &[u32; PLACES], out: &mut [u8], at: usize, plac
         return walk_field(pass, out, at, values[place + 1], SNA);
     }
     if values[place] < 2 {
-        return Put::Next(at);
+        return Some(at);
     }
-    match walk_field(pass, out, at, values[place + 2], SSI) {
-        Put::Next(next) => walk_extension(pass, values, out, next, place),
-        Put::Bad => Put::Bad,
-    }
+    let next = walk_field(pass, out, at, values[place + 2], SSI)?;
+    walk_extension(pass, values, out, next, place)
 }
 
 // An identity: its form, and what the form says.
@@ -80,14 +84,12 @@ pub fn walk_identity(
     out: &mut [u8],
     at: usize,
     place: usize,
-) -> Put
+) -> Option<usize>
     requires { Ready at place 4 }
     ensures { Writes pass Any (identity [] place) values.now at place out.old out.new result }
 {
-    match walk_field(pass, out, at, values[place], FORM) {
-        Put::Next(next) => walk_form(pass, values, out, next, place),
-        Put::Bad => Put::Bad,
-    }
+    let next = walk_field(pass, out, at, values[place], FORM)?;
+    walk_form(pass, values, out, next, place)
 }
 
 // An item that is there.
@@ -98,7 +100,7 @@ fn walk_item(
     at: usize,
     place: usize,
     items: Items,
-) -> Put
+) -> Option<usize>
     requires { Ready at place (stride items) }
     ensures { Writes pass Any (item items [] place) values.now at place out.old out.new result }
 {
@@ -118,7 +120,7 @@ fn walk_listed(
     place: usize,
     items: Items,
     i: u8,
-) -> Put
+) -> Option<usize>
     requires { Ready at place (stride items) × (count < place) }
     ensures { Writes pass (Known values.now count) (item items (at_least count (least items i) ∷ []) place) values.now at place
         out.old out.new result }
@@ -126,7 +128,7 @@ fn walk_listed(
     if least_for(items, i) <= values[count] {
         walk_item(pass, values, out, at, place, items)
     } else {
-        Put::Next(at)
+        Some(at)
     }
 }
 
@@ -138,29 +140,19 @@ fn walk_items(
     from: usize,
     count: usize,
     items: Items,
-) -> Put
+) -> Option<usize>
     requires { Ready from (count + 1) (stride items * times items) }
     ensures { Writes pass (Known values.now count) (repeated items count (count + 1) 0 (times items)) values.now from (count + 1)
         out.old out.new result }
 {
-    let many = times_of(items);
     let each = stride_of(items);
     let mut place = count + 1;
     let mut at = from;
-    let mut i = 0;
-    while i < many {
-        match walk_listed(pass, values, out, at, count, place, items, i) {
-            Put::Next(next) => {
-                at = next;
-            }
-            Put::Bad => {
-                return Put::Bad;
-            }
-        }
+    for i in 0..times_of(items) {
+        at = walk_listed(pass, values, out, at, count, place, items, i)?;
         place += each;
-        i += 1;
     }
-    Put::Next(at)
+    Some(at)
 }
 
 // A list: its count, and its items.
@@ -171,12 +163,10 @@ pub fn walk_list(
     at: usize,
     place: usize,
     items: Items,
-) -> Put
+) -> Option<usize>
     requires { Ready at place (1 + stride items * times items) }
     ensures { Writes pass Any (rows_of (shape.List items) [] place) values.now at place out.old out.new result }
 {
-    match walk_field(pass, out, at, values[place], count_field(items)) {
-        Put::Next(next) => walk_items(pass, values, out, next, place, items),
-        Put::Bad => Put::Bad,
-    }
+    let next = walk_field(pass, out, at, values[place], count_field(items))?;
+    walk_items(pass, values, out, next, place, items)
 }

@@ -4,17 +4,16 @@
 mod elements;
 mod items;
 
-ghost use Rattle.std.specs.Prelude.{◌≡◌, ◌-◌, ◌*◌, ◌≤◌, T, ◌++◌, length, drop};
+ghost use Rattle.std.specs.Prelude.{◌≡◌, ◌-◌, ◌*◌, ◌≤◌, T, Ok, ◌++◌, length, drop};
 ghost use Rattle.bits.specs.Bits.{bytes_for, bytes_of};
 ghost use Rattle.bits.specs.Field.{put_at};
 ghost use Rattle.layout.specs.Frame as spec;
 ghost use Rattle.writing.specs.Lay.{Over, most_bits};
 ghost use Rattle.layout.specs.Length.{measured_of};
-ghost use Rattle.writing.specs.Whole.{Counts, judged_by, measured_by};
 
 use bits::put_field;
 use elements::walk_elements;
-use layout::{Judged, Kind, PLACES, Written};
+use layout::{Kind, PLACES};
 use refusal::Refusal;
 use table::lines::{ACTION_TYPE_BITS, SS_TYPE, SS_TYPE_BITS, action_type};
 
@@ -25,55 +24,17 @@ pub enum Pass {
     Lay,
 }
 
-// What a walk over a record finds: so many bits, a value without a code, or no group.
-#[derive(Clone, Copy)]
-pub enum Walked {
-    Bits(usize),
-    Reserved,
-    NoGroup,
-}
-
-// Where a walk goes on: at the next bit, or nowhere, as a value has no code.
-#[derive(Clone, Copy)]
-pub enum Put {
-    Next(usize),
-    Bad,
-}
-
-// The same of a whole element, which holds nothing or something; it may also be the group that is missing.
+// What the passing of an element finds: it holds nothing, or something, and the walk goes on at the next bit; or it is the group that is missing.
 #[derive(Clone, Copy)]
 pub enum Passed {
     Empty(usize),
     Held(usize),
-    Bad,
     NoGroup,
 }
 
-// What a walk found, as a judgement of the record.
-fn judged(walked: Walked) -> Judged
-    ensures { result ≡ judged_by walked }
-{
-    match walked {
-        Walked::Bits(_) => Judged::Writable,
-        Walked::Reserved => Judged::Refused(Refusal::Reserved),
-        Walked::NoGroup => Judged::Refused(Refusal::NoGroup),
-    }
-}
-
-// What a walk found, as the length of the record's frame.
-fn measured(walked: Walked) -> Written
-    ensures { result ≡ measured_by walked }
-{
-    match walked {
-        Walked::Bits(n) => Written::Bits(n),
-        Walked::Reserved => Written::Refused(Refusal::Reserved),
-        Walked::NoGroup => Written::Refused(Refusal::NoGroup),
-    }
-}
-
 // The walk that judges and counts. It lays nothing: `out` is as it was.
-fn walk(kind: Kind, values: &[u32; PLACES], out: &mut [u8]) -> Walked
-    ensures { Counts kind values.now result × (out.new ≡ out.old) }
+fn walk(kind: Kind, values: &[u32; PLACES], out: &mut [u8]) -> Result<usize, Refusal>
+    ensures { (result ≡ measured_of kind values.now) × (out.new ≡ out.old) }
 {
     walk_elements(Pass::Judge, kind, values, out)
 }
@@ -85,7 +46,7 @@ fn lay_frame(kind: Kind, values: &[u32; PLACES], out: &mut [u8])
 {
     put_field(out, 0, SS_TYPE_BITS, SS_TYPE);
     put_field(out, SS_TYPE_BITS, ACTION_TYPE_BITS, action_type(kind));
-    walk_elements(Pass::Lay, kind, values, out);
+    let _ = walk_elements(Pass::Lay, kind, values, out);
 }
 
 // The spare bits of the last byte, as 0.
@@ -98,8 +59,7 @@ fn lay_spare(out: &mut [u8], bits: usize)
 
 // A record that is known to be writable, into bytes that have room for it.
 fn lay_whole(kind: Kind, values: &[u32; PLACES], out: &mut [u8], bits: usize)
-    requires { T (spec.valid kind values.now) × (bits ≡ length (spec.write kind values.now))
-        × (bytes_for bits ≤ length out.old) × (bits ≤ most_bits) }
+    requires { (measured_of kind values.now ≡ Ok bits) × (bytes_for bits ≤ length out.old) }
     ensures { out.new ≡ bytes_of (spec.write kind values.now) ++ drop (bytes_for bits) out.old }
 {
     lay_frame(kind, values, out);
@@ -113,45 +73,43 @@ fn write_part(
     out: &mut [u8],
     start: usize,
     bits: usize,
-) -> Written
-    requires { T (spec.valid kind values.now) × (bits ≡ length (spec.write kind values.now)) × (bits ≤ most_bits) }
+) -> Result<usize, Refusal>
+    requires { measured_of kind values.now ≡ Ok bits }
     ensures { (result ≡ spec.written_of kind values.now (length out.old) start)
         × (out.new ≡ spec.output_of kind values.now out.old start) }
 {
-    if out.len() < start {
-        return Written::Refused(Refusal::NoSpace);
-    }
-    if out.len() - start < (bits + 7) / 8 {
-        return Written::Refused(Refusal::NoSpace);
+    if out.len() < start || out.len() - start < (bits + 7) / 8 {
+        return Err(Refusal::NoSpace);
     }
     lay_whole(kind, values, &mut out[start..], bits);
-    Written::Bits(bits)
+    Ok(bits)
 }
 
 // Whether a record has a code.
-pub fn judge_record(kind: Kind, values: &[u32; PLACES]) -> Judged
+pub fn judge_record(kind: Kind, values: &[u32; PLACES]) -> Result<(), Refusal>
     ensures { result ≡ spec.judged_of kind values.now }
 {
-    let mut none = [0u8; 1];
-    judged(walk(kind, values, &mut none))
+    walk(kind, values, &mut [0u8; 1])?;
+    Ok(())
 }
 
 // How many bits a record's frame has.
-pub fn measure_record(kind: Kind, values: &[u32; PLACES]) -> Written
+pub fn measure_record(kind: Kind, values: &[u32; PLACES]) -> Result<usize, Refusal>
     ensures { result ≡ measured_of kind values.now }
 {
-    let mut none = [0u8; 1];
-    measured(walk(kind, values, &mut none))
+    walk(kind, values, &mut [0u8; 1])
 }
 
 // Writes a record, or refuses it and leaves `out` as it is.
-pub fn write_record(kind: Kind, values: &[u32; PLACES], out: &mut [u8], start: usize) -> Written
+pub fn write_record(
+    kind: Kind,
+    values: &[u32; PLACES],
+    out: &mut [u8],
+    start: usize,
+) -> Result<usize, Refusal>
     ensures { (result ≡ spec.written_of kind values.now (length out.old) start)
         × (out.new ≡ spec.output_of kind values.now out.old start) }
 {
-    match walk(kind, values, out) {
-        Walked::Bits(n) => write_part(kind, values, out, start, n),
-        Walked::Reserved => Written::Refused(Refusal::Reserved),
-        Walked::NoGroup => Written::Refused(Refusal::NoGroup),
-    }
+    let bits = walk(kind, values, out)?;
+    write_part(kind, values, out, start, bits)
 }

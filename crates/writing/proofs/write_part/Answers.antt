@@ -1,22 +1,24 @@
 -- `writing::write_part` meets its contract: too little room, or the frame in the part from the start byte on.
 -- Assumes nothing.
 use Rattle.std.proofs.Common.{◌-◌, length, arith}
-use Rattle.layout.proofs.Frames.{valid-judged}
-use Rattle.writing.proofs.WriteLaws.{past_end, too_few, written-part}
+use Rattle.writing.proofs.WriteLaws.{frame_told, no_room, written-part}
 use Rattle.writing.proofs.write_part.Goals as goal
+use Rattle.writing.proofs.write_part.Goals.{then-out-start-via-then-out-start, then-out-start-via-else-out-start+then-out-start-2}
+
+pub overflow_add-bits : goal.overflow_add-bits
+overflow_add-bits c =
+    let few = (frame_told c.args.kind c.args.values.now c.args.bits c.requires).2 in
+    omega (arith, few)
 
 pub returns-then-out-start : goal.returns-then-out-start
 returns-then-out-start c =
-    past_end c.args.kind c.args.values.now c.args.out.now c.args.start c.args.bits
-    (valid-judged c.args.kind c.args.values.now c.requires.0) c.requires.1 c.if-out-start.true
-
-pub returns-then-out-start-2 : goal.returns-then-out-start-2
-returns-then-out-start-2 c =
-    too_few c.args.kind c.args.values.now c.args.out.now c.args.start c.args.bits
-    (valid-judged c.args.kind c.args.values.now c.requires.0) c.requires.1 c.if-out-start.false c.if-out-start-2.true
+    no_room c.args.kind c.args.values.now c.args.out.now c.args.start c.args.bits c.requires
+    (elim c.then-out-start.branch [
+      | then-out-start-via-then-out-start w ↦ omega (arith, w.if-out-start.true)
+      | then-out-start-via-else-out-start+then-out-start-2 w ↦ omega (arith, w.if-out-start.false, w.if-out-start-2.true)
+    ])
 
 pub returns : goal.returns
 returns c =
-    written-part c.args.kind c.args.values.now c.args.out.now c.args.start c.args.bits
-    (valid-judged c.args.kind c.args.values.now c.requires.0) c.requires.1 c.if-out-start.false c.if-out-start-2.false
+    written-part c.args.kind c.args.values.now c.args.out.now c.args.start c.args.bits c.requires (omega arith)
     (length c.args.out.now - c.args.start) _ (omega arith) c.lay_whole.ensures

@@ -12,15 +12,15 @@ pub returns-then-values-place-lt2 : goal.returns-then-values-place-lt2
 returns-then-values-place-lt2 c =
     no-form c.args.place (omega (arith, c.requires.room)) c.args.out.now c.if-values-place-lt2.true c.if-values-place-eq1.false
 
-pub returns-in-Next : goal.returns-in-Next
-returns-in-Next c =
+pub returns : goal.returns
+returns c =
     let from = c.if-values-place-lt2.false in
     let ssi = c.walk_field-2.ensures in
-    let next = c.in-Next.is in
+    let next = c.in_ok-next.was in
     ssi-then c.args.place (omega (arith, c.requires.room)) from ssi _ _ _ next c.walk_extension.ensures
 
-pub returns-in-Bad : goal.returns-in-Bad
-returns-in-Bad c =
+pub returns-in_err-next : goal.returns-in_err-next
+returns-in_err-next c =
     let from = c.if-values-place-lt2.false in
     let ssi = c.walk_field-2.ensures in
-    ssi-stop c.args.place (omega (arith, c.requires.room)) from ssi c.in-Bad.is
+    rw c.from_residual.ensures (ssi-stop c.args.place (omega (arith, c.requires.room)) from ssi c.in_err-next.was)

@@ -6,24 +6,19 @@ use Rattle.writing.proofs.LayLists.{listed-none, listed-all, listed_more, listed
 use Rattle.writing.proofs.items.walk_items.Goals as goal
 
 pub loop-i-init : goal.loop-i-init
-loop-i-init c = (listed-none, omega arith)
+loop-i-init c = listed-none
 
-pub returns-in-Bad : goal.returns-in-Bad
-returns-in-Bad c =
-    let one = c.walk_listed.ensures in
+pub returns-in_err-at : goal.returns-in_err-at
+returns-in_err-at c =
     -- in a turn an item is still to come
-    let less : c.loop-i.i < times c.args.items = omega (arith, c.loop-i-test.true, c.times_of-many.ensures) in
-    listed-stop c.loop-i.invariant.0 one (times c.args.items) c.in-Bad.is less
+    let less : c.loop-i.i < times c.args.items = omega (arith, c.loop-i-test.true, c.times_of-i-end.ensures) in
+    rw c.from_residual.ensures (listed-stop c.loop-i.invariant c.walk_listed.ensures (times c.args.items) c.in_err-at.was less)
 
 pub loop-i-preserved : goal.loop-i-preserved
-loop-i-preserved c =
-    let one = c.walk_listed.ensures in
-    let each = c.stride_of-each.ensures in
-    (listed_more c.loop-i.invariant.0 one _ _ c.in-Next.is each, omega (arith, c.loop-i-test.true))
+loop-i-preserved c = listed_more c.loop-i.invariant c.walk_listed.ensures _ _ c.in_ok-at.was c.stride_of-each.ensures
 
 pub returns : goal.returns
 returns c =
     let l = c.loop-i in
-    let many = c.times_of-many.ensures in
-    let all : l.i ≡ times c.args.items = omega (arith, many, c.loop-i-test.false, l.invariant.1) in
-    rw (← all) (listed-all l.invariant.0)
+    let all : l.i ≡ times c.args.items = omega (arith, c.times_of-i-end.ensures, c.loop-i-test.false, l.auto.i-end) in
+    rw (← all) (listed-all l.invariant)

@@ -1,11 +1,7 @@
 -- `writing::items::walk_items` meets its contract. The loop's invariant: i items are passed, and the next begins at `place`.
 -- Assumes nothing.
-use Rattle.std.proofs.Common.{◌-◌, ◌≤◌}
 use Rattle.writing.proofs.LayLists.{Listed}
 use Rattle.writing.proofs.items.walk_items.Given as goal
 
 abbrev pub invariant-loop-i : goal.invariant-loop-i
-invariant-loop-i l = Listed l.pass l.items l.values l.from l.count l.initial.out l.out l.at l.place l.i × (l.i ≤ l.many)
-
-abbrev pub decreases-loop-i : goal.decreases-loop-i
-decreases-loop-i l = l.many - l.i
+invariant-loop-i l = Listed l.pass l.items l.values l.from l.count l.initial.out l.out l.at l.place l.i
