@@ -43,22 +43,6 @@ use Rattle.order.proofs.keys.identity_key.Kinds as identity-key-kinds
 use Rattle.order.proofs.keys.identity_key.Reads as identity-key
 use Rattle.order.proofs.keys.group_in.Kinds as group-in-kinds
 use Rattle.order.proofs.keys.group_in.Reads as group-in
-use Rattle.order.proofs.keys.groups_in.Kinds as groups-in-kinds
-use Rattle.order.proofs.keys.groups_in.Reads as groups-in
-use Rattle.order.proofs.keys.radios_in.Kinds as radios-in-kinds
-use Rattle.order.proofs.keys.radios_in.Reads as radios-in
-use Rattle.order.proofs.keys.group_count.Kinds as group-count-kinds
-use Rattle.order.proofs.keys.group_count.Reads as group-count
-use Rattle.order.proofs.keys.radio_count.Kinds as radio-count-kinds
-use Rattle.order.proofs.keys.radio_count.Reads as radio-count
-use Rattle.order.proofs.keys.group_at.Kinds as group-at-kinds
-use Rattle.order.proofs.keys.group_at.Reads as group_at
-use Rattle.order.proofs.keys.radio_at.Kinds as radio-at-kinds
-use Rattle.order.proofs.keys.radio_at.Reads as radio-at
-use Rattle.order.proofs.keys.groups_rising.Kinds as groups-rising-kinds
-use Rattle.order.proofs.keys.groups_rising.Reads as groups-rising
-use Rattle.order.proofs.keys.radios_rising.Kinds as radios-rising-kinds
-use Rattle.order.proofs.keys.radios_rising.Reads as radios-rising
 use Rattle.order.proofs.keys.owners_in.Kinds as owners-in-kinds
 use Rattle.order.proofs.keys.owners_in.Reads as owners-in
 use Rattle.order.proofs.record.lists_of.Kinds as lists-of-kinds
@@ -126,30 +110,6 @@ identity-key-unique κs a r r' s s' p q = p ∙ sym q
 
 pub group-in-unique : Unique group-in-kinds.ps group-in-kinds.r group-in.Post
 group-in-unique κs a r r' s s' p q = λ i. record { 0 = (p ∙ sym q) i }
-
-pub groups-in-unique : Unique groups-in-kinds.ps groups-in-kinds.r groups-in.Post
-groups-in-unique κs a r r' s s' p q = p ∙ sym q
-
-pub radios-in-unique : Unique radios-in-kinds.ps radios-in-kinds.r radios-in.Post
-radios-in-unique κs a r r' s s' p q = p ∙ sym q
-
-pub group-count-unique : Unique group-count-kinds.ps group-count-kinds.r group-count.Post
-group-count-unique κs a r r' s s' p q = p ∙ sym q
-
-pub radio-count-unique : Unique radio-count-kinds.ps radio-count-kinds.r radio-count.Post
-radio-count-unique κs a r r' s s' p q = p ∙ sym q
-
-pub group-at-unique : Unique group-at-kinds.ps group-at-kinds.r group_at.Post
-group-at-unique κs a r r' s s' p q = λ i. record { 0 = (p ∙ sym q) i }
-
-pub radio-at-unique : Unique radio-at-kinds.ps radio-at-kinds.r radio-at.Post
-radio-at-unique κs a r r' s s' p q = λ i. record { 0 = (p ∙ sym q) i }
-
-pub groups-rising-unique : Unique groups-rising-kinds.ps groups-rising-kinds.r groups-rising.Post
-groups-rising-unique κs a r r' s s' p q = p ∙ sym q
-
-pub radios-rising-unique : Unique radios-rising-kinds.ps radios-rising-kinds.r radios-rising.Post
-radios-rising-unique κs a r r' s s' p q = p ∙ sym q
 
 pub owners-in-unique : Unique owners-in-kinds.ps owners-in-kinds.r owners-in.Post
 owners-in-unique κs a r r' s s' p q = p ∙ sym q

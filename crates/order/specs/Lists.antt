@@ -1,11 +1,11 @@
 -- Lists of numbers as an order lends them: number type and ten identities, given or not.
-use Rattle.std.specs.Prelude.{ℕ, Bool, cond, List, map}
-use Rattle.std.proofs.Math.Option.{Option, none, some}
+use Rattle.std.specs.Prelude.{ℕ, Bool, List, map, Option, Some, None}
+use Rattle.std.proofs.Math.Option.{none, some}
+use Rattle.std.proofs.Math.Option as rules
 use Rattle.rules.specs.Number.{bad_identity, short}
 use Rattle.rules.specs.Number as number
 use Rattle.order.specs.declared.Identity.{Identity}
 use Rattle.order.specs.declared.Numbers.{Numbers}
-use Rattle.order.specs.declared.Listed.{Listed}
 use Rattle.order.specs.declared.Fault.{Fault}
 use Rattle.order.specs.declared.Fault.TheVariants.{Bad, Short}
 
@@ -18,8 +18,9 @@ numbers_as code identity = record { code = code; places = map identity_of identi
 abbrev pub numbers_of : Numbers → number.Numbers
 numbers_of n = numbers_as n.code n.identity
 
-abbrev pub list_of : Listed → Option number.Numbers
-list_of l = cond l.given (some (numbers_of l.numbers)) none
+abbrev pub list_of : Option Numbers → rules.Option number.Numbers
+list_of None = none
+list_of (Some n) = some (numbers_of n)
 
 -- what is wrong with an identity: bad, or short (an SNA)
 abbrev pub faulty : Fault → number.Identity → Bool

@@ -1,5 +1,5 @@
 -- Orders as they are handed over, as steps of the law; the last number is the room for what goes out.
-use Rattle.std.specs.Prelude.{ℕ, Bool, List}
+use Rattle.std.specs.Prelude.{ℕ, Bool, List, Option}
 use Rattle.rules.specs.Order.{Delete, Handover, Step, define, delete, answer, handover}
 use Rattle.rules.specs.Recorded.{define_of}
 use Rattle.rules.specs.declared.AnswerKind.{AnswerKind}
@@ -9,12 +9,11 @@ use Rattle.order.specs.declared.Gtsi.{Gtsi}
 use Rattle.order.specs.declared.Itsi.{Itsi}
 use Rattle.order.specs.declared.Identity.{Identity}
 use Rattle.order.specs.declared.Numbers.{Numbers}
-use Rattle.order.specs.declared.Listed.{Listed}
 
 abbrev pub define_step : Itsi → List ℕ → ℕ → Step
 define_step asker places room = define (define_of (radio_number asker) places) room
 
-abbrev pub delete_of : Itsi → Numbers → Bool → Bool → Listed → Bool → Delete
+abbrev pub delete_of : Itsi → Numbers → Bool → Bool → Option Numbers → Bool → Delete
 delete_of asker groups remove deassign radios acknowledgement = record {
   asker = radio_number asker;
   groups = numbers_of groups;
@@ -24,7 +23,7 @@ delete_of asker groups remove deassign radios acknowledgement = record {
   acknowledgement = acknowledgement;
 }
 
-abbrev pub delete_step : Itsi → Numbers → Bool → Bool → Listed → Bool → ℕ → Step
+abbrev pub delete_step : Itsi → Numbers → Bool → Bool → Option Numbers → Bool → ℕ → Step
 delete_step asker groups remove deassign radios acknowledgement room = delete (delete_of asker groups remove deassign radios acknowledgement) room
 
 abbrev pub answer_step : Itsi → Gtsi → AnswerKind → ℕ → Step

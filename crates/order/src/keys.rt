@@ -3,14 +3,24 @@ ghost use Rattle.std.specs.Prelude.{◌≤◌, eqb, length, get_or, not, [], ◌
 ghost use Rattle.rules.specs.Lists.{keep, in_order, rising};
 ghost use Rattle.rules.specs.Number.{key, plain, ssi_of, extension_of, identified, identity_key};
 ghost use Rattle.rules.specs.Named.{numbers_in, max_numbers, max_listed_owners};
-ghost use Rattle.order.specs.Keys.{fitting, groups_as, radios_as, owners_as, group_keys, radio_keys, owners_held};
+ghost use Rattle.order.specs.Keys.{fitting, keys_as, keys_held};
 ghost use Rattle.order.specs.Lists.{identity_of, list_of};
 ghost use Rattle.order.specs.Numbers.{radio_number, group_number, radio_at, group_at, asked_group};
 
 use crate::rising::put_rising;
 use crate::spelling::keys_in;
-use crate::{GroupAsked, GroupKey, Groups, Gtsi, Identity, Itsi, Listed, Owners, RadioKey, Radios};
-use rows::{MAX_LISTED_OWNERS, MAX_NUMBERS, MAX_OWNERS, lesser};
+use crate::{GroupAsked, GroupKey, Gtsi, Identity, Itsi, Key, Numbers, Owners, RadioKey, Radios};
+use rows::{MAX_LISTED_OWNERS, MAX_NUMBERS, MAX_OWNERS};
+use std::marker::PhantomData;
+
+// Keys of groups or of radios: how many, and their words; the words past them are 0.
+// An array and a count, and no `Vec`: there is no heap.
+#[derive(Clone, Copy)]
+pub struct Keys<K, const N: usize> {
+    pub count: usize,
+    pub key: [u64; N],
+    pub of: PhantomData<K>,
+}
 
 // The keys of one extension.
 const EXTENSION_KEYS: u64 = 0x100_0000;
@@ -98,125 +108,74 @@ pub fn group_in(asker: Itsi, identity: Identity) -> GroupKey
     GroupKey(identity_key(identity, asker.1))
 }
 
-// The groups of a list; none where it is not given, or names too many.
-pub fn groups_in(asker: Itsi, list: Listed) -> Groups
-    ensures { result ≡ groups_as (fitting max_numbers (numbers_in asker.1 (list_of list))) }
+// The keys of a list; none where it is not given, or names too many.
+pub fn keys_named<K: Key>(asker: Itsi, list: Option<Numbers>) -> Keys<K, MAX_NUMBERS>
+    ensures { result ≡ keys_as (fitting max_numbers (numbers_in asker.1 (list_of list))) }
 {
-    let keys = keys_in(asker.1, list, MAX_NUMBERS);
-    let key = keys.key;
-    Groups {
-        count: keys.count,
-        key,
+    keys_in(asker.1, list, MAX_NUMBERS)
+}
+
+impl<K: Key, const N: usize> Keys<K, N> {
+    // How many there are.
+    pub fn len(&self) -> usize
+        ensures { result ≡ length (keys_held self.now) }
+    {
+        self.count.min(N)
     }
-}
 
-// The radios of a list, likewise.
-pub fn radios_in(asker: Itsi, list: Listed) -> Radios
-    ensures { result ≡ radios_as (fitting max_numbers (numbers_in asker.1 (list_of list))) }
-{
-    let keys = keys_in(asker.1, list, MAX_NUMBERS);
-    let key = keys.key;
-    Radios {
-        count: keys.count,
-        key,
+    // Their words.
+    pub fn as_slice(&self) -> &[u64]
+        ensures { result.now ≡ keys_held self.now }
+    {
+        &self.key[..self.len()]
     }
-}
 
-// How many groups a list has.
-pub fn group_count(groups: Groups) -> usize
-    ensures { result ≡ length (group_keys groups) }
-{
-    lesser(groups.count, MAX_NUMBERS)
-}
-
-// How many radios a list has.
-pub fn radio_count(radios: Radios) -> usize
-    ensures { result ≡ length (radio_keys radios) }
-{
-    lesser(radios.count, MAX_NUMBERS)
-}
-
-// A group of a list, key 0 past its end.
-pub fn group_at(groups: Groups, i: usize) -> GroupKey
-    ensures { result.0 ≡ get_or (group_keys groups) i 0 }
-{
-    if i < group_count(groups) {
-        let key = groups.key;
-        return GroupKey(key[i]);
+    // One of them, key 0 past the end.
+    pub fn at(&self, i: usize) -> K
+        ensures { K.word_of result ≡ get_or (keys_held self.now) i 0 }
+    {
+        K::of(self.as_slice().get(i).copied().unwrap_or(0))
     }
-    GroupKey(0)
-}
 
-// A radio of a list, key 0 past its end.
-pub fn radio_at(radios: Radios, i: usize) -> RadioKey
-    ensures { result.0 ≡ get_or (radio_keys radios) i 0 }
-{
-    if i < radio_count(radios) {
-        let key = radios.key;
-        return RadioKey(key[i]);
+    // They, rising.
+    pub fn rising(&self) -> Self
+        ensures { result ≡ keys_as (in_order (keys_held self.now)) }
+    {
+        let mut key = [0u64; N];
+        put_rising(self.as_slice(), &mut key);
+        Keys {
+            count: self.len(),
+            key,
+            of: PhantomData,
+        }
     }
-    RadioKey(0)
-}
-
-// The groups of a list, rising.
-pub fn groups_rising(groups: Groups) -> Groups
-    ensures { result ≡ groups_as (in_order (group_keys groups)) }
-{
-    let named = groups.key;
-    let count = group_count(groups);
-    let mut key = [0u64; MAX_NUMBERS];
-    put_rising(&named[..count], &mut key);
-    Groups { count, key }
-}
-
-// The radios of a list, rising.
-pub fn radios_rising(radios: Radios) -> Radios
-    ensures { result ≡ radios_as (in_order (radio_keys radios)) }
-{
-    let named = radios.key;
-    let count = radio_count(radios);
-    let mut key = [0u64; MAX_NUMBERS];
-    put_rising(&named[..count], &mut key);
-    Radios { count, key }
 }
 
 // The asker, then the keys that differ from him.
 fn with_asker(asker: RadioKey, listed: &[u64]) -> Owners
     requires { length listed.now ≤ max_listed_owners }
-    ensures { result ≡ owners_as (asker.0 ∷ keep (λ y. not (eqb asker.0 y)) listed.now) }
+    ensures { result ≡ keys_as (asker.0 ∷ keep (λ y. not (eqb asker.0 y)) listed.now) }
 {
     let mut key = [0u64; MAX_OWNERS];
     key[0] = asker.0;
     let mut count: usize = 1;
-    let mut i: usize = 0;
-    while i < listed.len() {
-        let owner = listed[i];
-        i += 1;
-        if asker.0 != owner {
-            key[count] = owner;
+    for owner in listed {
+        if asker.0 != *owner {
+            key[count] = *owner;
             count += 1;
         }
     }
-    Owners { count, key }
-}
-
-// Owners, rising.
-fn owners_rising(owners: Owners) -> Owners
-    ensures { result ≡ owners_as (in_order (owners_held owners)) }
-{
-    let given = owners.key;
-    let count = lesser(owners.count, MAX_OWNERS);
-    let mut key = [0u64; MAX_OWNERS];
-    put_rising(&given[..count], &mut key);
-    Owners { count, key }
+    Keys {
+        count,
+        key,
+        of: PhantomData,
+    }
 }
 
 // The owners that an order gives, rising: "asker plus those listed"; the asker alone where too many are.
-pub fn owners_in(asker: Itsi, list: Listed) -> Owners
-    ensures { result ≡ owners_as (rising (key (radio_number asker) ∷ fitting max_listed_owners (numbers_in asker.1 (list_of list)))) }
+pub fn owners_in(asker: Itsi, list: Option<Numbers>) -> Owners
+    ensures { result ≡ keys_as (rising (key (radio_number asker) ∷ fitting max_listed_owners (numbers_in asker.1 (list_of list)))) }
 {
-    let keys = keys_in(asker.1, list, MAX_LISTED_OWNERS);
-    let count = keys.count;
-    let key = keys.key;
-    owners_rising(with_asker(radio_key(asker), &key[..count]))
+    let listed: Radios = keys_in(asker.1, list, MAX_LISTED_OWNERS);
+    with_asker(radio_key(asker), listed.as_slice()).rising()
 }

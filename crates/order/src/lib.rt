@@ -10,6 +10,9 @@ pub mod row;
 mod spelling;
 mod values;
 
+ghost use Rattle.std.specs.Prelude.{ℕ, ◌≡◌};
+
+use keys::Keys;
 use rows::{MAX_LISTED, MAX_NUMBERS, MAX_OWNERS};
 
 // A group's number, as it is handed over: SSI and extension. 24 bits of each are good; 32 are held, so that no key of theirs can wrap.
@@ -35,6 +38,41 @@ pub struct GroupKey(pub u64);
 #[derive(Clone, Copy)]
 pub struct RadioKey(pub u64);
 
+// A key, which is a word: a group's or a radio's.
+pub trait Key: Copy {
+    ghost word_of: { Self → ℕ };
+
+    fn of(word: u64) -> Self
+        ensures { word_of result ≡ word };
+
+    fn word(self) -> u64
+        ensures { result ≡ word_of self };
+}
+
+impl Key for GroupKey {
+    ghost word_of = { λ k. k.0 };
+
+    fn of(word: u64) -> GroupKey {
+        GroupKey(word)
+    }
+
+    fn word(self) -> u64 {
+        self.0
+    }
+}
+
+impl Key for RadioKey {
+    ghost word_of = { λ k. k.0 };
+
+    fn of(word: u64) -> RadioKey {
+        RadioKey(word)
+    }
+
+    fn word(self) -> u64 {
+        self.0
+    }
+}
+
 // An identity: its form (0 SNA, 1 SSI, 2 SSI and extension), and its values.
 #[derive(Clone, Copy)]
 pub struct Identity {
@@ -51,48 +89,22 @@ pub struct Numbers {
     pub identity: [Identity; MAX_LISTED],
 }
 
-// A list that may not be given.
-#[derive(Clone, Copy)]
-pub struct Listed {
-    pub given: bool,
-    pub numbers: Numbers,
-}
-
 // The lists of a DEFINE record.
 #[derive(Clone, Copy)]
 pub struct DefineLists {
-    pub groups: Listed,
-    pub owners: Listed,
-    pub radios: Listed,
+    pub groups: Option<Numbers>,
+    pub owners: Option<Numbers>,
+    pub radios: Option<Numbers>,
 }
 
-// The keys of a list, each once; the words past them are 0.
-#[derive(Clone, Copy)]
-struct KeyList {
-    count: usize,
-    key: [u64; MAX_NUMBERS],
-}
+// The groups that an order names, each once.
+pub type Groups = Keys<GroupKey, MAX_NUMBERS>;
 
-// The groups that an order names: keys, each once; the words past them are 0.
-#[derive(Clone, Copy)]
-pub struct Groups {
-    pub count: usize,
-    pub key: [u64; MAX_NUMBERS],
-}
+// The radios that it names, likewise.
+pub type Radios = Keys<RadioKey, MAX_NUMBERS>;
 
-// The radios that an order names, likewise.
-#[derive(Clone, Copy)]
-pub struct Radios {
-    pub count: usize,
-    pub key: [u64; MAX_NUMBERS],
-}
-
-// The owners that an order gives: the asker and those of its list, each once, rising; the words past them are 0.
-#[derive(Clone, Copy)]
-pub struct Owners {
-    pub count: usize,
-    pub key: [u64; MAX_OWNERS],
-}
+// The owners that it gives: the asker and those of its list, each once, rising.
+pub type Owners = Keys<RadioKey, MAX_OWNERS>;
 
 // What may be wrong with an identity: bad, or short (an SNA).
 #[derive(Clone, Copy)]

@@ -6,7 +6,7 @@ ghost use Rattle.rows.specs.Layout.{max_listed};
 ghost use Rattle.order.specs.Numbers.{radio_number, group_number};
 ghost use Rattle.order.specs.Lists.{identity_of, numbers_as, list_of, faulty};
 
-use crate::{Fault, Gtsi, Identity, Itsi, Listed};
+use crate::{Fault, Gtsi, Identity, Itsi, Numbers};
 use rows::MAX_LISTED;
 
 // The first number that does not fit 24 bits.
@@ -37,14 +37,7 @@ pub fn wide_group(group: Gtsi) -> bool
 pub fn member(list: &[u64], x: u64) -> bool
     ensures { result ≡ mem x list.now }
 {
-    let mut i: usize = 0;
-    while i < list.len() {
-        if x == list[i] {
-            return true;
-        }
-        i += 1;
-    }
-    false
+    list.contains(&x)
 }
 
 // How many identities a number type counts.
@@ -107,25 +100,15 @@ fn any_faulty(code: u32, identity: [Identity; MAX_LISTED], fault: Fault) -> bool
 }
 
 // A reserved number type, or a bad identity in use.
-pub fn bad_list(list: Listed) -> bool
+pub fn bad_list(list: Option<Numbers>) -> bool
     ensures { result ≡ bad_list (list_of list) }
 {
-    if list.given {
-        let numbers = list.numbers;
-        let identity = numbers.identity;
-        return (10 < numbers.code) | any_faulty(numbers.code, identity, Fault::Bad);
-    }
-    false
+    list.is_some_and(|n| 10 < n.code || any_faulty(n.code, n.identity, Fault::Bad))
 }
 
 // A form not taken: an SNA.
-pub fn untaken(list: Listed) -> bool
+pub fn untaken(list: Option<Numbers>) -> bool
     ensures { result ≡ untaken (list_of list) }
 {
-    if list.given {
-        let numbers = list.numbers;
-        let identity = numbers.identity;
-        return any_faulty(numbers.code, identity, Fault::Short);
-    }
-    false
+    list.is_some_and(|n| any_faulty(n.code, n.identity, Fault::Short))
 }

@@ -7,7 +7,7 @@ ghost use Rattle.rows.specs.Layout.{max_listed};
 ghost use Rattle.order.specs.Lists.{identity_of, numbers_as, list_of};
 
 use crate::keys::{extension_in, identity_key};
-use crate::{Identity, Itsi, Listed};
+use crate::{Identity, Itsi, Numbers};
 use rows::{MAX_LISTED, MAX_LISTED_OWNERS, MAX_NUMBERS};
 
 // "First above last or extensions differ"; `home` is the asker's extension.
@@ -25,15 +25,10 @@ fn crossed_ends(home: u32, code: u32, identity: [Identity; MAX_LISTED]) -> bool
 }
 
 // The same of a list that may not be given.
-pub fn bad_range(asker: Itsi, list: Listed) -> bool
+pub fn bad_range(asker: Itsi, list: Option<Numbers>) -> bool
     ensures { result ≡ bad_range asker.1 (list_of list) }
 {
-    if list.given {
-        let numbers = list.numbers;
-        let identity = numbers.identity;
-        return crossed_ends(asker.1, numbers.code, identity);
-    }
-    false
+    list.is_some_and(|n| crossed_ends(asker.1, n.code, n.identity))
 }
 
 // Whether there are more than `most` keys from a first to a last.
@@ -57,27 +52,22 @@ fn more_than(home: u32, code: u32, identity: [Identity; MAX_LISTED], most: usize
 }
 
 // The same of a list that may not be given.
-fn exceeds(home: u32, list: Listed, most: usize) -> bool
+fn exceeds(home: u32, list: Option<Numbers>, most: usize) -> bool
     requires { max_listed ≤ most }
     ensures { result ≡ too_many most home (list_of list) }
 {
-    if list.given {
-        let numbers = list.numbers;
-        let identity = numbers.identity;
-        return more_than(home, numbers.code, identity, most);
-    }
-    false
+    list.is_some_and(|n| more_than(home, n.code, n.identity, most))
 }
 
 // Whether a list of groups or radios names too many.
-pub fn too_many(asker: Itsi, list: Listed) -> bool
+pub fn too_many(asker: Itsi, list: Option<Numbers>) -> bool
     ensures { result ≡ too_many max_numbers asker.1 (list_of list) }
 {
     exceeds(asker.1, list, MAX_NUMBERS)
 }
 
 // Whether a list of owners does.
-pub fn too_many_owners(asker: Itsi, list: Listed) -> bool
+pub fn too_many_owners(asker: Itsi, list: Option<Numbers>) -> bool
     ensures { result ≡ too_many max_listed_owners asker.1 (list_of list) }
 {
     exceeds(asker.1, list, MAX_LISTED_OWNERS)

@@ -6,7 +6,7 @@ ghost use Rattle.rules.specs.Recorded.{optional, optional_yes, acknowledgement_r
 ghost use Rattle.order.specs.Recorded.{identity_in, list_at, group_list, owner_list, radio_list, lists_of};
 
 use crate::values::{one_down, optional};
-use crate::{DefineLists, Identity, Listed, Numbers};
+use crate::{DefineLists, Identity, Numbers};
 use layout::PLACES;
 use table::place::define::*;
 use table::place::*;
@@ -32,47 +32,47 @@ fn identity_at(place: [u32; PLACES], k: usize) -> Identity
     }
 }
 
-// The list whose number type is at `k`, its ten identities behind it.
-fn numbers_at(place: [u32; PLACES], k: usize, given: bool) -> Listed
+// The list whose number type is at `k`, its ten identities behind it, where it is given.
+fn numbers_at(place: [u32; PLACES], k: usize, given: bool) -> Option<Numbers>
     requires { k + 40 < places }
     ensures { result ≡ list_at place given k }
 {
-    Listed {
-        given,
-        numbers: Numbers {
-            code: one_down(place[k]),
-            identity: [
-                identity_at(place, k + 1),
-                identity_at(place, k + 5),
-                identity_at(place, k + 9),
-                identity_at(place, k + 13),
-                identity_at(place, k + 17),
-                identity_at(place, k + 21),
-                identity_at(place, k + 25),
-                identity_at(place, k + 29),
-                identity_at(place, k + 33),
-                identity_at(place, k + 37),
-            ],
-        },
+    if !given {
+        return None;
     }
+    Some(Numbers {
+        code: one_down(place[k]),
+        identity: [
+            identity_at(place, k + 1),
+            identity_at(place, k + 5),
+            identity_at(place, k + 9),
+            identity_at(place, k + 13),
+            identity_at(place, k + 17),
+            identity_at(place, k + 21),
+            identity_at(place, k + 25),
+            identity_at(place, k + 29),
+            identity_at(place, k + 33),
+            identity_at(place, k + 37),
+        ],
+    })
 }
 
 // The groups that a DEFINE record names.
-fn group_list(place: [u32; PLACES]) -> Listed
+fn group_list(place: [u32; PLACES]) -> Option<Numbers>
     ensures { result ≡ group_list place }
 {
     numbers_at(place, GROUPS, place[GIVEN] == YES)
 }
 
 // The owners that it gives.
-fn owner_list(place: [u32; PLACES]) -> Listed
+fn owner_list(place: [u32; PLACES]) -> Option<Numbers>
     ensures { result ≡ owner_list place }
 {
     numbers_at(place, OWNERS, optional_yes(place, OWNERS_INCLUDED_GIVEN))
 }
 
 // The radios that it assigns.
-fn radio_list(place: [u32; PLACES]) -> Listed
+fn radio_list(place: [u32; PLACES]) -> Option<Numbers>
     ensures { result ≡ radio_list place }
 {
     numbers_at(place, RADIOS, optional_yes(place, ASSIGNMENT_GIVEN))

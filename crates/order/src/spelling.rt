@@ -7,23 +7,25 @@ ghost use Rattle.rows.specs.Layout.{max_listed};
 ghost use Rattle.order.specs.Keys.{fitting, keys_as};
 ghost use Rattle.order.specs.Lists.{numbers_as, list_of};
 
-use crate::keys::identity_key;
+use crate::keys::{Keys, identity_key};
 use crate::lists::{member, used_count};
-use crate::{Identity, KeyList, Listed};
+use crate::{Identity, Numbers};
 use rows::{MAX_LISTED, MAX_NUMBERS};
+use std::marker::PhantomData;
 
 // No keys.
-fn no_keys() -> KeyList
+fn no_keys<K>() -> Keys<K, MAX_NUMBERS>
     ensures { result ≡ keys_as [] }
 {
-    KeyList {
+    Keys {
         count: 0,
         key: [0; MAX_NUMBERS],
+        of: PhantomData,
     }
 }
 
 // The keys of the identities in use, each once, at its first place; `home` is the asker's extension.
-fn listed_keys(home: u32, code: u32, identity: [Identity; MAX_LISTED]) -> KeyList
+fn listed_keys<K>(home: u32, code: u32, identity: [Identity; MAX_LISTED]) -> Keys<K, MAX_NUMBERS>
     ensures { result ≡ keys_as (once (map (identity_key home) (used (numbers_as code identity)))) }
 {
     let used = used_count(code);
@@ -38,11 +40,15 @@ fn listed_keys(home: u32, code: u32, identity: [Identity; MAX_LISTED]) -> KeyLis
             count += 1;
         }
     }
-    KeyList { count, key: keys }
+    Keys {
+        count,
+        key: keys,
+        of: PhantomData,
+    }
 }
 
 // So many keys in a row, from the first on.
-fn consecutive_keys(first: u64, count: usize) -> KeyList
+fn consecutive_keys<K>(first: u64, count: usize) -> Keys<K, MAX_NUMBERS>
     requires { (count ≤ max_numbers) × (first + count ≤ 2 ^ 64) }
     ensures { result ≡ keys_as (consecutive first count) }
 {
@@ -52,11 +58,15 @@ fn consecutive_keys(first: u64, count: usize) -> KeyList
         keys[i] = first + i as u64;
         i += 1;
     }
-    KeyList { count, key: keys }
+    Keys {
+        count,
+        key: keys,
+        of: PhantomData,
+    }
 }
 
 // The keys of a range, from its first to its last; none where they are more than `most`. No number past the last is made.
-fn range_keys(first: u64, last: u64, most: usize) -> KeyList
+fn range_keys<K>(first: u64, last: u64, most: usize) -> Keys<K, MAX_NUMBERS>
     requires { most ≤ max_numbers }
     ensures { result ≡ keys_as (fitting most (consecutive first (span first last))) }
 {
@@ -71,7 +81,7 @@ fn range_keys(first: u64, last: u64, most: usize) -> KeyList
 }
 
 // The keys of a list; none where they are more than `most`.
-fn keys_of(home: u32, code: u32, identity: [Identity; MAX_LISTED], most: usize) -> KeyList
+fn keys_of<K>(home: u32, code: u32, identity: [Identity; MAX_LISTED], most: usize) -> Keys<K, MAX_NUMBERS>
     requires { (max_listed ≤ most) × (most ≤ max_numbers) }
     ensures { result ≡ keys_as (fitting most (numbers home (numbers_as code identity))) }
 {
@@ -84,14 +94,12 @@ fn keys_of(home: u32, code: u32, identity: [Identity; MAX_LISTED], most: usize) 
 }
 
 // The keys of a list, none where it is not given.
-pub fn keys_in(home: u32, list: Listed, most: usize) -> KeyList
+pub fn keys_in<K>(home: u32, list: Option<Numbers>, most: usize) -> Keys<K, MAX_NUMBERS>
     requires { (max_listed ≤ most) × (most ≤ max_numbers) }
     ensures { result ≡ keys_as (fitting most (numbers_in home (list_of list))) }
 {
-    if list.given {
-        let numbers = list.numbers;
-        let identity = numbers.identity;
-        return keys_of(home, numbers.code, identity, most);
+    match list {
+        Some(n) => keys_of(home, n.code, n.identity, most),
+        None => no_keys(),
     }
-    no_keys()
 }

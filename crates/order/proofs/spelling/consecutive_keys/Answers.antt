@@ -12,7 +12,7 @@ use borrow.Author.Rules.{rules}
 use Rattle.order.proofs.spelling.consecutive_keys.Goals as goal
 
 pub loop-i-preserved : goal.loop-i-preserved
-loop-i-preserved c =
+loop-i-preserved g c =
     let a = c.args in
     let l = c.loop-i in
     let inside : l.i < length l.keys = omega (arith, l.invariant.1, c.requires.0) in

@@ -15,7 +15,7 @@ use borrow.Author.Rules.{rules}
 use Rattle.order.proofs.spelling.keys_of.Goals as goal
 
 pub returns-then-code-eq1 : goal.returns-then-code-eq1
-returns-then-code-eq1 c =
+returns-then-code-eq1 g c =
     let a = c.args in
     let ten : length a.identity ≡ 10 = search rules in
     let range = eq-eqb a.code 1 c.if-code-eq1.true in
@@ -25,7 +25,7 @@ returns-then-code-eq1 c =
     ∙ ap (λ (l : List ℕ). keys_as (fitting a.most l)) (sym (ends-numbers a.home a.identity nobody ten a.code range))
 
 pub returns : goal.returns
-returns c =
+returns g c =
     let a = c.args in
     let ten : length a.identity ≡ 10 = search rules in
     let listed = ne_eqb a.code 1 c.if-code-eq1.false in

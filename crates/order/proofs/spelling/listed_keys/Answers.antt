@@ -10,7 +10,7 @@ use borrow.Author.Rules.{rules}
 use Rattle.order.proofs.spelling.listed_keys.Goals as goal
 
 pub loop-i-preserved-then-not-member : goal.loop-i-preserved-then-not-member
-loop-i-preserved-then-not-member c =
+loop-i-preserved-then-not-member g c =
     let l = c.loop-i in
     let u = c.used_count-used in
     let a = c.args in
@@ -24,7 +24,7 @@ loop-i-preserved-then-not-member c =
     (search rules, search rules, simp length-set l.invariant.2, t, rest-blank l.keys (replicate max_numbers 0) l.count _ l.invariant.4)
 
 pub loop-i-preserved : goal.loop-i-preserved
-loop-i-preserved c =
+loop-i-preserved g c =
     let l = c.loop-i in
     let u = c.used_count-used in
     let a = c.args in
@@ -38,7 +38,7 @@ loop-i-preserved c =
     (search rules, search rules, l.invariant.2, t, l.invariant.4)
 
 pub returns : goal.returns
-returns c =
+returns g c =
     let a = c.args in
     let l = c.loop-i in
     let u = c.used_count-used in
@@ -47,4 +47,4 @@ returns c =
     let e : l.i ≡ u.result = omega arith in
     let all = l.invariant.3 ∙ ap (λ (m : ℕ). once (keys_to a.home m a.identity)) e ∙ keys-all a.home a.code a.identity u.result u.ensures n in
     let w = keys-whole max_numbers _ l.keys l.count (omega (arith, l.invariant.2)) all l.invariant.4 in
-    λ i. record { count = w.0 i; key = w.1 i }
+    λ i. record { count = w.0 i; key = w.1 i; of = record {} }

@@ -8,9 +8,9 @@ use Rattle.order.proofs.ListLaws.{keys_to}
 use Rattle.order.proofs.spelling.listed_keys.Given as goal
 
 abbrev pub invariant-loop-i : goal.invariant-loop-i
-invariant-loop-i l =
+invariant-loop-i g l =
     (l.i ≤ l.used) × (l.count ≤ l.i) × (length l.keys ≡ max_numbers) × (take l.count l.keys ≡ once (keys_to l.home l.i l.identity))
     × (drop l.count l.keys ≡ drop l.count (replicate max_numbers 0))
 
 abbrev pub decreases-loop-i : goal.decreases-loop-i
-decreases-loop-i l = l.used - l.i
+decreases-loop-i g l = l.used - l.i

@@ -19,13 +19,13 @@ many : (first last : ℕ) → length (all first last) ≡ span first last
 many first last = consecutive-length first (span first last)
 
 pub returns-then-most-behind : goal.returns-then-most-behind
-returns-then-most-behind c =
+returns-then-most-behind g c =
     let long : c.args.most < length (all c.args.first c.args.last) = omega
     (arith, many c.args.first c.args.last, c.if-most-behind.true, c.if-last-first.false) in
     c.no_keys-then-most-behind.ensures ∙ ap keys_as (sym (fitting-none c.args.most (all c.args.first c.args.last) long))
 
 pub returns : goal.returns
-returns c =
+returns g c =
     let a = c.args in
     let few : length (all c.args.first c.args.last) ≤ a.most = omega (arith, many c.args.first c.args.last, c.if-most-behind.false, c.if-last-first.false) in
     let e : a.last - a.first + 1 ≡ span a.first a.last = omega (arith, c.if-last-first.false) in
