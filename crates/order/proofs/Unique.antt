@@ -5,6 +5,13 @@ use contract.Lifetimes.{Lfts}
 use borrow.Fn.Kinds.{Dens, res_t, ended_of}
 use denote.Triple.Clauses.{AtExit}
 pub use Rattle.table.proofs.Unique.{Unique}
+use Prim.Native.Nat.{ℕ}
+use denote.Param.Laws.{Laws, IsCopy}
+use denote.RattleType.{RattleType}
+use mir.Syntax.{Dict, w64}
+use mir.Val.{Fits}
+use Rattle.order.specs.declared.Key as Key
+use Rattle.std.specs.declared.clone.Clone as Clone
 use Rattle.order.proofs.lists.member.Kinds as member-kinds
 use Rattle.order.proofs.lists.member.Reads as member
 use Rattle.order.proofs.lists.wide_radio.Kinds as wide-radio-kinds
@@ -27,14 +34,14 @@ use Rattle.order.proofs.ranges.too_many.Kinds as too-many-kinds
 use Rattle.order.proofs.ranges.too_many.Reads as too_many
 use Rattle.order.proofs.ranges.too_many_owners.Kinds as too-many-owners-kinds
 use Rattle.order.proofs.ranges.too_many_owners.Reads as too-many-owners
-use Rattle.order.proofs.keys.group_key.Kinds as group-key-kinds
-use Rattle.order.proofs.keys.group_key.Reads as group-key
-use Rattle.order.proofs.keys.radio_key.Kinds as radio-key-kinds
-use Rattle.order.proofs.keys.radio_key.Reads as radio-key
-use Rattle.order.proofs.keys.group_of.Kinds as group-of-kinds
-use Rattle.order.proofs.keys.group_of.Reads as Group-of
-use Rattle.order.proofs.keys.radio_of.Kinds as radio-of-kinds
-use Rattle.order.proofs.keys.radio_of.Reads as radio-of
+use Rattle.order.proofs.keys.GroupKeyFromGtsi.from.Kinds as group-key-kinds
+use Rattle.order.proofs.keys.GroupKeyFromGtsi.from.Reads as group-key
+use Rattle.order.proofs.keys.RadioKeyFromItsi.from.Kinds as radio-key-kinds
+use Rattle.order.proofs.keys.RadioKeyFromItsi.from.Reads as radio-key
+use Rattle.order.proofs.keys.GtsiFromGroupKey.from.Kinds as group-of-kinds
+use Rattle.order.proofs.keys.GtsiFromGroupKey.from.Reads as Group-of
+use Rattle.order.proofs.keys.ItsiFromRadioKey.from.Kinds as radio-of-kinds
+use Rattle.order.proofs.keys.ItsiFromRadioKey.from.Reads as radio-of
 use Rattle.order.proofs.keys.asked_group.Kinds as asked-group-kinds
 use Rattle.order.proofs.keys.asked_group.Reads as asked-group
 use Rattle.order.proofs.keys.extension_in.Kinds as extension-in-kinds
@@ -45,6 +52,24 @@ use Rattle.order.proofs.keys.group_in.Kinds as group-in-kinds
 use Rattle.order.proofs.keys.group_in.Reads as group-in
 use Rattle.order.proofs.keys.owners_in.Kinds as owners-in-kinds
 use Rattle.order.proofs.keys.owners_in.Reads as owners-in
+use Rattle.order.proofs.keys.keys_named.Kinds as keys-named-kinds
+use Rattle.order.proofs.keys.keys_named.Reads as keys-named
+use Rattle.order.proofs.keys.Keys.len.Kinds as len-kinds
+use Rattle.order.proofs.keys.Keys.len.Reads as len
+use Rattle.order.proofs.keys.Keys.as_slice.Kinds as as-slice-kinds
+use Rattle.order.proofs.keys.Keys.as_slice.Reads as as-slice
+use Rattle.order.proofs.keys.Keys.at.Kinds as at-kinds
+use Rattle.order.proofs.keys.Keys.at.Reads as at
+use Rattle.order.proofs.keys.Keys.rising.Kinds as rising-kinds
+use Rattle.order.proofs.keys.Keys.rising.Reads as rising
+use Rattle.order.proofs.GroupKeyKey.of.Kinds as group-key-of-kinds
+use Rattle.order.proofs.GroupKeyKey.of.Reads as group-key-of
+use Rattle.order.proofs.GroupKeyKey.word.Kinds as group-key-word-kinds
+use Rattle.order.proofs.GroupKeyKey.word.Reads as group-key-word
+use Rattle.order.proofs.RadioKeyKey.of.Kinds as radio-key-of-kinds
+use Rattle.order.proofs.RadioKeyKey.of.Reads as radio-key-of
+use Rattle.order.proofs.RadioKeyKey.word.Kinds as radio-key-word-kinds
+use Rattle.order.proofs.RadioKeyKey.word.Reads as radio-key-word
 use Rattle.order.proofs.record.lists_of.Kinds as lists-of-kinds
 use Rattle.order.proofs.record.lists_of.Reads as Lists-of
 use Rattle.order.proofs.record.first_state.Kinds as first-state-kinds
@@ -113,6 +138,45 @@ group-in-unique κs a r r' s s' p q = λ i. record { 0 = (p ∙ sym q) i }
 
 pub owners-in-unique : Unique owners-in-kinds.ps owners-in-kinds.r owners-in.Post
 owners-in-unique κs a r r' s s' p q = p ∙ sym q
+
+pub group-key-of-unique : Unique group-key-of-kinds.ps group-key-of-kinds.r group-key-of.Post
+group-key-of-unique κs a r r' s s' p q = λ i. record { 0 = (p ∙ sym q) i }
+
+pub group-key-word-unique : Unique group-key-word-kinds.ps group-key-word-kinds.r group-key-word.Post
+group-key-word-unique κs a r r' s s' p q = p ∙ sym q
+
+pub radio-key-of-unique : Unique radio-key-of-kinds.ps radio-key-of-kinds.r radio-key-of.Post
+radio-key-of-unique κs a r r' s s' p q = λ i. record { 0 = (p ∙ sym q) i }
+
+pub radio-key-word-unique : Unique radio-key-word-kinds.ps radio-key-word-kinds.r radio-key-word.Post
+radio-key-word-unique κs a r r' s s' p q = p ∙ sym q
+
+-- whatever the keys are of, and however many places there are
+module _ (K : RattleType) (laws : Laws K) (copy : IsCopy K) (key : Key.Ghosts K.Denot) (key-dict : Dict) (clone : Clone.Ghosts K.Denot) (clone-dict : Dict) where
+  pub keys-named-unique :
+      Unique (keys-named-kinds.ps K laws copy) (keys-named-kinds.r K laws copy) (keys-named.Post K laws copy key key-dict clone clone-dict)
+  keys-named-unique κs a r r' s s' p q = p ∙ sym q
+
+  module _ (n : ℕ) (fits : Fits w64 n) where
+    pub len-unique :
+        Unique (len-kinds.ps K n laws fits copy) (len-kinds.r K n laws fits copy) (len.Post K n laws fits copy key key-dict clone clone-dict)
+    len-unique κs a r r' s s' p q = p ∙ sym q
+
+    -- what the lent words are
+    module _ (κs : Lfts 3) (a : Dens κs (as-slice-kinds.ps K n laws fits copy)) (r r' : (res_t (as-slice-kinds.r K n laws fits copy) κs).Denot)
+        (s s' : AtExit (ended_of 3 (as-slice-kinds.ps K n laws fits copy) (as-slice-kinds.r K n laws fits copy)) κs) where
+      pub as-slice-unique : as-slice.Post K n laws fits copy key key-dict clone clone-dict κs a r s
+          → as-slice.Post K n laws fits copy key key-dict clone clone-dict κs a r' s' → r.now ≡ r'.now
+      as-slice-unique p q = p ∙ sym q
+
+    -- at-unique takes the trait's law: keys of one word are one
+    pub at-unique : ((x y : K.Denot) → key.word_of x ≡ key.word_of y → x ≡ y)
+        → Unique (at-kinds.ps K n laws fits copy) (at-kinds.r K n laws fits copy) (at.Post K n laws fits copy key key-dict clone clone-dict)
+    at-unique alike κs a r r' s s' p q = alike r r' (p ∙ sym q)
+
+    pub rising-unique :
+        Unique (rising-kinds.ps K n laws fits copy) (rising-kinds.r K n laws fits copy) (rising.Post K n laws fits copy key key-dict clone clone-dict)
+    rising-unique κs a r r' s s' p q = p ∙ sym q
 
 pub lists-of-unique : Unique lists-of-kinds.ps lists-of-kinds.r Lists-of.Post
 lists-of-unique κs a r r' s s' p q = p ∙ sym q

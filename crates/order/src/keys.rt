@@ -33,17 +33,21 @@ fn key(ssi: u32, extension: u32) -> u64
 }
 
 // The key of a group's number.
-pub fn group_key(group: Gtsi) -> GroupKey
-    ensures { result.0 ≡ key (group_number group) }
-{
-    GroupKey(key(group.0, group.1))
+impl From<Gtsi> for GroupKey {
+    ghost from_gives = { λ g k. k.0 ≡ key (group_number g) };
+
+    fn from(group: Gtsi) -> GroupKey {
+        GroupKey(key(group.0, group.1))
+    }
 }
 
 // The key of a radio's number.
-pub fn radio_key(radio: Itsi) -> RadioKey
-    ensures { result.0 ≡ key (radio_number radio) }
-{
-    RadioKey(key(radio.0, radio.1))
+impl From<Itsi> for RadioKey {
+    ghost from_gives = { λ r k. k.0 ≡ key (radio_number r) };
+
+    fn from(radio: Itsi) -> RadioKey {
+        RadioKey(key(radio.0, radio.1))
+    }
 }
 
 // The SSI of a key.
@@ -61,17 +65,21 @@ fn extension_of(key: u64) -> u32
 }
 
 // A group's number, both parts.
-pub fn group_of(group: GroupKey) -> Gtsi
-    ensures { result ≡ group_at group.0 }
-{
-    Gtsi(ssi_of(group.0), extension_of(group.0))
+impl From<GroupKey> for Gtsi {
+    ghost from_gives = { λ k g. g ≡ group_at k.0 };
+
+    fn from(group: GroupKey) -> Gtsi {
+        Gtsi(ssi_of(group.0), extension_of(group.0))
+    }
 }
 
 // A radio's number, both parts.
-pub fn radio_of(radio: RadioKey) -> Itsi
-    ensures { result ≡ radio_at radio.0 }
-{
-    Itsi(ssi_of(radio.0), extension_of(radio.0))
+impl From<RadioKey> for Itsi {
+    ghost from_gives = { λ k r. r ≡ radio_at k.0 };
+
+    fn from(radio: RadioKey) -> Itsi {
+        Itsi(ssi_of(radio.0), extension_of(radio.0))
+    }
 }
 
 // The group that a list or a show asks for: a plain SSI takes the asker's extension.
@@ -177,5 +185,5 @@ pub fn owners_in(asker: Itsi, list: Option<Numbers>) -> Owners
     ensures { result ≡ keys_as (rising (key (radio_number asker) ∷ fitting max_listed_owners (numbers_in asker.1 (list_of list)))) }
 {
     let listed: Radios = keys_in(asker.1, list, MAX_LISTED_OWNERS);
-    with_asker(radio_key(asker), listed.as_slice()).rising()
+    with_asker(RadioKey::from(asker), listed.as_slice()).rising()
 }

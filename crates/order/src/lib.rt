@@ -47,6 +47,9 @@ pub trait Key: Copy {
 
     fn word(self) -> u64
         ensures { result ≡ word_of self };
+
+    // Keys of one word are one.
+    ghost alike: { (a b : Self) → word_of a ≡ word_of b → a ≡ b };
 }
 
 impl Key for GroupKey {
@@ -59,6 +62,8 @@ impl Key for GroupKey {
     fn word(self) -> u64 {
         self.0
     }
+
+    ghost alike = { λ a b e i. record { 0 = e i } };
 }
 
 impl Key for RadioKey {
@@ -71,6 +76,8 @@ impl Key for RadioKey {
     fn word(self) -> u64 {
         self.0
     }
+
+    ghost alike = { λ a b e i. record { 0 = e i } };
 }
 
 // An identity: its form (0 SNA, 1 SSI, 2 SSI and extension), and its values.

@@ -81,7 +81,12 @@ fn range_keys<K>(first: u64, last: u64, most: usize) -> Keys<K, MAX_NUMBERS>
 }
 
 // The keys of a list; none where they are more than `most`.
-fn keys_of<K>(home: u32, code: u32, identity: [Identity; MAX_LISTED], most: usize) -> Keys<K, MAX_NUMBERS>
+fn keys_of<K>(
+    home: u32,
+    code: u32,
+    identity: [Identity; MAX_LISTED],
+    most: usize,
+) -> Keys<K, MAX_NUMBERS>
     requires { (max_listed ≤ most) × (most ≤ max_numbers) }
     ensures { result ≡ keys_as (fitting most (numbers home (numbers_as code identity))) }
 {

@@ -20,7 +20,7 @@ use Rattle.order.proofs.keys.owners_in.Goals as goal
 pub returns : goal.returns
 returns c =
     let a = c.args in
-    let asker = c.radio_key.ensures in
+    let asker = c.from.ensures in
     -- the owners listed, as they are handed on
     let listed = fitting max_listed_owners (numbers_in a.asker.1 (list_of a.list)) in
     let keys = c.as_slice.ensures ∙ ap keys_held c.keys_in-listed.ensures ∙ keys-held max_numbers listed in
