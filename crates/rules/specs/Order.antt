@@ -1,8 +1,8 @@
 -- The orders of document 01, define, delete, answer and tick, and the handover of document 02 (P6). They hold numbers as handed over,
 -- "asker and answering radio .. with theirs".
-use Rattle.std.specs.Prelude.{ℕ, Bool, true, cond, not, ◌&&◌, ◌||◌, List, ◌∷◌}
+use Rattle.std.specs.Prelude.{ℕ, Bool, true, cond, not, ◌&&◌, ◌||◌, List, ◌∷◌, Result, ⊤}
 use Rattle.std.proofs.Math.Option.{Option, some}
-use Rattle.layout.specs.declared.Judged.{Judged}
+use Rattle.refusal.specs.declared.Refusal.{Refusal}
 use Rattle.rules.specs.declared.AnswerKind.{AnswerKind}
 use Rattle.rules.specs.Lists.{present, mem, once}
 use Rattle.rules.specs.Number.{Number, Identity, Numbers, key, identity_key}
@@ -13,7 +13,7 @@ use Rattle.rules.specs.Parameters.{Parameters}
 -- A list is none where it is absent, or where its element says "no".
 pub record Define : Type 0 where
   pub asker : Number
-  pub judged : Judged
+  pub judged : Result ⊤ Refusal
   pub call : Bool
   pub groups : Option Numbers
   pub owners : Option Numbers

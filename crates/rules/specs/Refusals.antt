@@ -1,13 +1,11 @@
 -- When an order is refused: for each order its tests with their refusals, in the law's order; the first that holds counts.
 -- NotWritten comes before them all; it is about lent storage, and stated there.
-use Rattle.std.specs.Prelude.{ℕ, Bool, true, false, cond, not, ◌&&◌, ◌||◌, List, [], ◌∷◌, ◌++◌, eqb, ltb, length}
+use Rattle.std.specs.Prelude.{ℕ, Bool, true, false, cond, not, ◌&&◌, ◌||◌, List, [], ◌∷◌, ◌++◌, eqb, ltb, length, Result, Ok, Err, ⊤}
 use Rattle.std.proofs.Math.Option.{Option, none, some}
 use Rattle.refusal.specs.Number.{number_of}
 use Rattle.refusal.specs.declared.Refusal.{Refusal}
 use Rattle.refusal.specs.declared.Refusal.TheVariants.{BadOrder, FormNotTaken, BadRange, TooManyNumbers, NoSuchGroup, NotOwner}
 use Rattle.refusal.specs.declared.Refusal.TheVariants.{TooManyOwners, NotOpen, NothingToDo, Full, NoRoom}
-use Rattle.layout.specs.declared.Judged.{Judged}
-use Rattle.layout.specs.declared.Judged.TheVariants.{Writable, Refused}
 use Rattle.rules.specs.Lists.{any, present}
 use Rattle.rules.specs.Number.{Number, key, wide_number, bad_identity, bad_list, short, untaken}
 use Rattle.rules.specs.Named.{bad_range, max_numbers, max_listed_owners, too_many}
@@ -45,9 +43,9 @@ abbrev pub max_pairs : ℕ
 max_pairs = 2048
 
 -- "a DEFINE record that the writer refuses with 4 or 5"
-abbrev pub refuses : Judged → Bool
-refuses Writable = false
-refuses (Refused r) = true
+abbrev pub refuses : Result ⊤ Refusal → Bool
+refuses (Ok _) = false
+refuses (Err r) = true
 
 -- a value that the ledger would keep, out of its range. The writer refuses each such record with 4, so this adds no
 -- refusal; with it the written form rests on the ledger's own tests alone.
