@@ -7,7 +7,7 @@ ghost use Rattle.rules.specs.Written.{max_owners, good_owners, good_mark};
 ghost use Rattle.rows.specs.Layout.{max_letters, name_length, owner_count};
 ghost use Rattle.store.specs.Form.{tidy, roomy, rising_keys, good_row, good_groups, good_next, keys_of, good_pairs, is_written, Sound};
 ghost use Rattle.store.specs.Lists.{Plain};
-ghost use Rattle.store.specs.Storage.{placing, contents, pair_of, pair_row, pairs_of, group_of, group_row};
+ghost use Rattle.store.specs.Storage.{placing, pair_of, pair_row, pairs_of, group_of, group_row, group_count, pair_count};
 
 use rows::{
     BROADCAST_WORD, CALL_WORD, CLASS_WORD, FIRST_LETTER, FIRST_OWNER, GROUP_COUNT, GROUP_WORDS,
@@ -176,29 +176,73 @@ fn pairs_ok(
     true
 }
 
-// Whether the space asked for is lent.
-pub fn roomy(head: &[u64], groups: &[[u64; GROUP_WORDS]], pairs: &[[u64; PAIR_WORDS]]) -> bool
-    ensures { result ≡ roomy (contents head.now groups.now pairs.now) }
+// The rows in use: as many as a word of the head says, and no more than there are.
+fn used<'a, R>(head: &[u64], word: usize, rows: &'a [R]) -> &'a [R]
+    ensures { result.now ≡ take (get_or head.now word 0) rows.now }
 {
-    (HEAD_WORDS <= head.len()) & ((MAX_GROUPS <= groups.len()) & (MAX_PAIRS <= pairs.len()))
+    let mut count = 0;
+    if word < head.len() {
+        count = head[word] as usize;
+    }
+    &rows[..count.min(rows.len())]
 }
 
-// Whether the lent ledger is in its written form.
-pub fn written(head: &[u64], groups: &[[u64; GROUP_WORDS]], pairs: &[[u64; PAIR_WORDS]]) -> bool
-    ensures { (result ≡ is_written (contents head.now groups.now pairs.now))
-        × (result ≡ true → Sound (contents head.now groups.now pairs.now)) }
-{
-    if !roomy(head, groups, pairs) {
-        return false;
+// What is lent for a ledger, to be read: its head, and room for groups and for pairs.
+#[derive(Clone, Copy)]
+pub struct Lent<'a> {
+    pub head: &'a [u64],
+    pub groups: &'a [[u64; GROUP_WORDS]],
+    pub pairs: &'a [[u64; PAIR_WORDS]],
+}
+
+impl<'a> Lent<'a> {
+    ghost use Rattle.store.specs.Lent.{contents_of};
+
+    // Whether the space asked for is lent.
+    pub fn roomy(self) -> bool
+        ensures { result ≡ roomy (contents_of self.entry) }
+    {
+        (HEAD_WORDS <= self.head.len())
+            && (MAX_GROUPS <= self.groups.len())
+            && (MAX_PAIRS <= self.pairs.len())
     }
-    let group_count = head[GROUP_COUNT];
-    let pair_count = head[PAIR_COUNT];
-    let within = (group_count <= MAX_GROUPS as u64) & (pair_count <= MAX_PAIRS as u64);
-    if !within {
-        return false;
+
+    // The rows of the groups in use.
+    pub fn group_rows(self) -> &'a [[u64; GROUP_WORDS]]
+        ensures { result.now ≡ take (group_count (contents_of self.entry)) self.entry.groups.now }
+    {
+        used(self.head, GROUP_COUNT, self.groups)
     }
-    if !groups_ok(groups, group_count as usize) {
-        return false;
+
+    // The rows of the pairs in use.
+    pub fn pair_rows(self) -> &'a [[u64; PAIR_WORDS]]
+        ensures { result.now ≡ take (pair_count (contents_of self.entry)) self.entry.pairs.now }
+    {
+        used(self.head, PAIR_COUNT, self.pairs)
     }
-    pairs_ok(groups, group_count as usize, pairs, pair_count as usize)
+
+    // Whether the lent ledger is in its written form.
+    pub fn written(self) -> bool
+        ensures { (result ≡ is_written (contents_of self.entry))
+            × (result ≡ true → Sound (contents_of self.entry)) }
+    {
+        if !self.roomy() {
+            return false;
+        }
+        let group_count = self.head[GROUP_COUNT];
+        let pair_count = self.head[PAIR_COUNT];
+        let within = (group_count <= MAX_GROUPS as u64) & (pair_count <= MAX_PAIRS as u64);
+        if !within {
+            return false;
+        }
+        if !groups_ok(self.groups, group_count as usize) {
+            return false;
+        }
+        pairs_ok(
+            self.groups,
+            group_count as usize,
+            self.pairs,
+            pair_count as usize,
+        )
+    }
 }

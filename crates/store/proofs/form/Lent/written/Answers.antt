@@ -1,30 +1,28 @@
--- `store::written` meets its contract.
+-- `store::form::Lent::written` meets its contract.
 use mathlib.Core.Path.{◌≡◌, sym, ap, ◌∙◌}
 use mathlib.Core.Bool.{Bool, true, ◌&&◌, false≢true}
-use Rattle.store.specs.Storage.{contents, group_count, pair_count, pairs_of}
+use Rattle.store.specs.Storage.{group_count, pair_count, pairs_of}
+use Rattle.store.specs.Lent.{contents_of}
 use Rattle.store.specs.Form.{roomy, within, is_written, keys_of, good_pairs}
 use Rattle.store.proofs.FormLaws.{room_of, counts_of, form-walks, form-cut, form-over, sound}
-use Rattle.store.proofs.form.written.Goals as goal
+use Rattle.store.proofs.form.Lent.written.Goals as goal
 
 pub returns-then-not-roomy : goal.returns-then-not-roomy
 returns-then-not-roomy c =
-    let a = c.args in
-    let x = contents a.head.now a.groups.now a.pairs.now in
+    let x = contents_of c.args.self in
     (sym (form-cut x (sym c.roomy.ensures ∙ c.if-not-roomy.true)), λ e. absurd (false≢true e))
 
 -- past the first test there is room
 pub returns-then-not-within : goal.returns-then-not-within
 returns-then-not-within c =
-    let a = c.args in
-    let x = contents a.head.now a.groups.now a.pairs.now in
+    let x = contents_of c.args.self in
     let r : roomy x ≡ true = sym c.roomy.ensures ∙ c.if-not-roomy.false in
     (sym (form-over x r c.if-not-within.true), λ e. absurd (false≢true e))
 
 -- past the second test the counts are within the room: there the form is what the walks say
 pub returns-then-not-groups_ok : goal.returns-then-not-groups_ok
 returns-then-not-groups_ok c =
-    let a = c.args in
-    let x = contents a.head.now a.groups.now a.pairs.now in
+    let x = contents_of c.args.self in
     let r : roomy x ≡ true = sym c.roomy.ensures ∙ c.if-not-roomy.false in
     let w : within x ≡ true = c.if-not-within.false in
     let walks : is_written x ≡ (c.groups_ok.result && good_pairs (keys_of (group_count x) x.groups) 0 (pairs_of (pair_count x) x.pairs)) =
@@ -34,8 +32,7 @@ returns-then-not-groups_ok c =
 
 pub returns : goal.returns
 returns c =
-    let a = c.args in
-    let x = contents a.head.now a.groups.now a.pairs.now in
+    let x = contents_of c.args.self in
     let r : roomy x ≡ true = sym c.roomy.ensures ∙ c.if-not-roomy.false in
     let w : within x ≡ true = c.if-not-within.false in
     let walks : is_written x ≡ (c.groups_ok.result && good_pairs (keys_of (group_count x) x.groups) 0 (pairs_of (pair_count x) x.pairs)) =
