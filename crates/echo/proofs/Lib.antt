@@ -1,5 +1,4 @@
 -- The laws that the proofs of `echo` share.
 pub mod Lines
-pub mod Moves
 pub mod Replies
 pub mod Rest

@@ -36,13 +36,13 @@ module _ (line before after : List ℕ) (count : ℕ) (room : 433 ≤ length bef
       rw (text, size) (sets_more before 0 (echo_line line) newline)
 
 -- a text stored at the front of a buffer's part from `at` on stands in the buffer at `at`
-pub part-stored : (l text part : List ℕ) (at : ℕ) → at + length text ≤ length l → part ≡ sets (mid_of at (length l - at) l) 0 text
-    → put_mid at (length l - at) l part ≡ sets l at text
-part-stored l text part at fits stored =
-    let size : length (drop at l) ≡ length l - at = length-drop at l in
-    let mid : mid_of at (length l - at) l ≡ drop at l = take_all (length l - at) (drop at l) (omega arith) in
-    let post : post_of at (length l - at) l ≡ [] = drop_of_length-le (drop at l) {i = length l - at} (omega arith) in
+pub part-stored : (l text part : List ℕ) (at size : ℕ) → size ≡ length l → at + length text ≤ size → part ≡ sets (mid_of at (size - at) l) 0 text
+    → put_mid at (size - at) l part ≡ sets l at text
+part-stored l text part at size whole fits stored =
+    let left : length (drop at l) ≡ size - at = length-drop at l ∙ omega arith in
+    let mid : mid_of at (size - at) l ≡ drop at l = take_all (size - at) (drop at l) (omega arith) in
+    let post : post_of at (size - at) l ≡ [] = drop_of_length-le (drop at l) {i = size - at} (omega arith) in
     let behind : drop (0 + length text) (drop at l) ≡ drop (at + length text) l = rw zero-add (drop-drop (length text) at l) in
     let placed : part ≡ text ++ drop (at + length text) l =
     stored ∙ ap (λ (m : List ℕ). sets m 0 text) mid ∙ sets-eq text (drop at l) 0 (omega arith) ∙ ap (λ (r : List ℕ). text ++ r) behind in
-    rw (post, append-nil, placed, sets-eq text l at fits) (sym (append_assoc (take at l) text (drop (at + length text) l)))
+    rw (post, append-nil, placed, sets-eq text l at (omega arith)) (sym (append_assoc (take at l) text (drop (at + length text) l)))

@@ -1,5 +1,4 @@
 -- The definitions that the contracts of `echo` cite.
-pub mod Kept
 pub mod Line
 pub mod Reply
 pub mod Room

@@ -1,5 +1,5 @@
 -- The lines of a text: each ends at a newline.
-use Rattle.std.specs.Prelude.{Bool, false, cond, ◌||◌, List, [], ◌∷◌, ℕ, suc, ◌+◌, eqb, drop}
+use Rattle.std.specs.Prelude.{Bool, false, cond, ◌||◌, List, [], ◌∷◌, ℕ, suc, Option, Some, None, eqb}
 
 -- the character that ends a line
 abbrev pub newline : ℕ
@@ -15,9 +15,9 @@ abbrev pub until_newline : List ℕ → ℕ
 until_newline [] = 0
 until_newline (byte ∷ text) = cond (eqb byte newline) 0 (suc (until_newline text))
 
--- where the line that starts at a place ends: at its newline, or at the end of the text
-abbrev pub line_end : List ℕ → ℕ → ℕ
-line_end text from = from + until_newline (drop from text)
+-- where the first newline is, if there is one
+abbrev pub newline_at : List ℕ → Option ℕ
+newline_at text = cond (has_newline text) (Some (until_newline text)) None
 
 -- what a text has behind its last newline: the start of a line that is not whole
 abbrev pub unfinished : List ℕ → List ℕ
