@@ -9,14 +9,12 @@ use borrow.Author.Tests.{lt-ltb, le-ltb}
 use lib.Dec.{T}
 use lib.ListN.{length, take, drop, get_or, replicate, length-drop, take-append-drop, drop_of_length-le}
 use lib.Seq.{drop-cons, get_or-drop, length-take-le}
-use Rattle.refusal.specs.declared.Refusal.{Refusal}
 use Rattle.refusal.specs.declared.Refusal.TheVariants.{EndsInside, BitsRemain, WrongKind}
 use Rattle.bits.specs.Bits.{value}
 use Rattle.layout.specs.declared.Element.{Element}
 use Rattle.layout.specs.declared.Kind.{Kind}
-use Rattle.layout.specs.declared.Verdict.TheVariants as verdict
-use Rattle.reading.specs.declared.Step.{Step}
-use Rattle.reading.specs.declared.Step.TheVariants.{Next, Refused}
+use Rattle.layout.specs.declared.Refused.{Refused}
+use Rattle.std.specs.Prelude.{Result, Ok, Err}
 use Rattle.layout.specs.Row.{Row}
 use Rattle.layout.specs.Read.{frame, refused, read_rows}
 use Rattle.layout.specs.Shape.{rows_of, span, unrolled}
@@ -73,7 +71,7 @@ module _ {kind : Kind} {begin end : ℕ} (own : Own kind begin end) {bits : List
     turn-span = line-span now.placed inside says
 
     -- by what its reading finds
-    module _ {vs' : List ℕ} {s : Step} (f : Reads (rows_of (shape_of n) (hang_of n) p) bits at p vs vs' s) where
+    module _ {vs' : List ℕ} {s : Result ℕ Refused} (f : Reads (rows_of (shape_of n) (hang_of n) p) bits at p vs vs' s) where
       rest : List Row
       rest = unrolled (drop (now.passed + 1) (table_of kind)) (p + places_of n)
 
@@ -84,7 +82,7 @@ module _ {kind : Kind} {begin end : ℕ} (own : Own kind begin end) {bits : List
           ∙ ap (λ (l : List Row). read_rows l (take p vs) at (drop at bits)) (line-rows now.placed inside says)
           ∙ f.same rest
 
-      pub turn-next : {w at' : ℕ} → w ≡ places_of n → s ≡ Next at' → Going kind bits from vs' at' (p + w) (k + 1)
+      pub turn-next : {w at' : ℕ} → w ≡ places_of n → s ≡ Ok at' → Going kind bits from vs' at' (p + w) (k + 1)
       unfolding rest
       turn-next {w} {at'} d t =
           let size : length (rows_of (shape_of n) (hang_of n) p) ≡ w = length-shape (shape_of n) (hang_of n) p ∙ sym turn-span ∙ sym d in
@@ -99,7 +97,7 @@ module _ {kind : Kind} {begin end : ℕ} (own : Own kind begin end) {bits : List
             size = f.size ∙ now.size;
           }
 
-      pub turn-stop : {r : Refusal} {x : ℕ} → s ≡ Refused r x → read_rows (rows kind) [] from (drop from bits) ≡ refused r x
+      pub turn-stop : {r : Refused} → s ≡ Err r → read_rows (rows kind) [] from (drop from bits) ≡ refused r.refusal r.bit
       turn-stop t = on ∙ ap (onward rest bits _) t
 
   -- ---- after the last line
@@ -127,12 +125,12 @@ module _ {kind : Kind} {begin end : ℕ} (own : Own kind begin end) {bits : List
         ∙ take-append-drop p vs
 
     pub going_end : length bits ≤ at
-        → as_reading (read_rows (rows kind) [] from (drop from bits)) ≡ record { verdict = verdict.Frame; values = record { place = vs } }
+        → as_reading (read_rows (rows kind) [] from (drop from bits)) ≡ Ok (record { place = vs })
     unfolding read_rows as_reading
     going_end h =
         let done : read_rows [] (take p vs) at (drop at bits) ≡ frame (take p vs) = rw (drop_of_length-le bits {i = at} h) in
         ap as_reading (last ∙ done)
-        ∙ ap (λ (l : List ℕ). record { verdict = verdict.Frame; values = record { place = l } }) whole-record
+        ∙ ap (λ (l : List ℕ). Ok (record { place = l })) whole-record
 
 -- ---- the head, by what a frame's bits say of it
 module _ (kind : Kind) (bytes : List ℕ) (count : ℕ) (lent : count ≤ 8 * length bytes) where
@@ -164,7 +162,7 @@ pub reading-lent : (kind : Kind) (bytes : List ℕ) (count : ℕ) → 8 * length
 unfolding reading_of read_bytes
 reading-lent kind bytes count h = rw (lt-ltb (8 * length bytes) count h)
 
-pub reading-on : (kind : Kind) (bytes : List ℕ) (count : ℕ) (s t : Step)
+pub reading-on : (kind : Kind) (bytes : List ℕ) (count : ℕ) (s t : Result ℕ Refused)
     → count ≤ 8 * length bytes → read kind (whole bytes count) ≡ onward (rows kind) (whole bytes count) [] s → s ≡ t
     → as_reading (onward (rows kind) (whole bytes count) [] t) ≡ reading_of kind bytes count
 unfolding reading_of read_bytes

@@ -1,4 +1,5 @@
 pub mod ReadLaws
+pub mod FillLaws
 pub mod RefusalLaws
 pub mod Going
 pub mod Unique

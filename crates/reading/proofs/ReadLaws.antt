@@ -15,14 +15,12 @@ use lib.ListN.{length, take, drop, get_or, set, length-append, length-drop, leng
 use lib.Seq.{take-suc, take-suc-set, drop-drop, drop-set-lt, take-set-le, take-take, length-take-le}
 use Rattle.bits.specs.Bits.{value, bits_of}
 use Rattle.bits.specs.Field.{field_at}
-use Rattle.bits.specs.declared.Taken.{Taken}
-use Rattle.bits.specs.declared.Taken.TheVariants.{Value, Cut}
 use Rattle.bits.proofs.Laws.{length-bits_of, field_cut, field-value}
 use Rattle.refusal.specs.declared.Refusal.{Refusal}
 use Rattle.refusal.specs.declared.Refusal.TheVariants.{EndsInside}
 use Rattle.table.specs.declared.Field.{Field}
-use Rattle.reading.specs.declared.Step.{Step}
-use Rattle.reading.specs.declared.Step.TheVariants.{Next, Refused}
+use Rattle.layout.specs.declared.Refused.{Refused}
+use Rattle.std.specs.Prelude.{Option, Some, None, Result, Ok, Err}
 use Rattle.layout.specs.Row.{Row, Condition, holds, all, present}
 use Rattle.layout.specs.Read.{took, stop, turn, read_rows}
 use Rattle.layout.specs.Shape.{row}
@@ -34,7 +32,7 @@ use Rattle.reading.specs.Reads.{whole, onward, Reads}
 -- ---- one row
 module _ (r : Row) (bits : List Bool) (at p : ℕ) (vs : List ℕ) (inside : p < length vs) where
   -- a row that is not there: its place, which holds 0, is passed
-  pub row-off : present (take p vs) r.hang ≡ false → get_or vs p 0 ≡ 0 → Reads (r ∷ []) bits at p vs vs (Next at)
+  pub row-off : present (take p vs) r.hang ≡ false → get_or vs p 0 ≡ 0 → Reads (r ∷ []) bits at p vs vs (Ok at)
   unfolding read_rows value
   row-off e z =
       record {
@@ -46,7 +44,7 @@ module _ (r : Row) (bits : List Bool) (at p : ℕ) (vs : List ℕ) (inside : p <
 
   -- a row that is there, and its value
   pub row-took : present (take p vs) r.hang ≡ true → (v : ℕ) → turn r (drop at bits) ≡ took v
-      → Reads (r ∷ []) bits at p vs (set vs p v) (Next (at + r.width))
+      → Reads (r ∷ []) bits at p vs (set vs p v) (Ok (at + r.width))
   unfolding read_rows
   row-took e v t =
       record {
@@ -58,7 +56,7 @@ module _ (r : Row) (bits : List Bool) (at p : ℕ) (vs : List ℕ) (inside : p <
 
   -- a row that is there, and is refused
   pub row-stop : present (take p vs) r.hang ≡ true → (n : Refusal) (back : ℕ) → turn r (drop at bits) ≡ stop n back
-      → Reads (r ∷ []) bits at p vs vs (Refused n (at - back))
+      → Reads (r ∷ []) bits at p vs vs (Err (record { refusal = n; bit = at - back }))
   unfolding read_rows
   row-stop e n back t = record { same = λ rest. rw (e, t); before = refl; stays = refl; size = refl }
 
@@ -70,7 +68,7 @@ module _ (a b : List Row) (bits : List Bool) (at p : ℕ) (vs vs₁ : List ℕ) 
   still : drop (p + length a) vs₁ ≡ drop (p + length a) vs → drop (p + length a + length b) vs₁ ≡ drop (p + length a + length b) vs
   still e = sym (drop-drop (length b) (p + length a) vs₁) ∙ ap (drop (length b)) e ∙ drop-drop (length b) (p + length a) vs
 
-  pub reads_on : (at₁ : ℕ) (vs₂ : List ℕ) (s : Step) → Reads a bits at p vs vs₁ (Next at₁) → Reads b bits at₁ (p + length a) vs₁ vs₂ s
+  pub reads_on : (at₁ : ℕ) (vs₂ : List ℕ) (s : Result ℕ Refused) → Reads a bits at p vs vs₁ (Ok at₁) → Reads b bits at₁ (p + length a) vs₁ vs₂ s
       → Reads (a ++ b) bits at p vs vs₂ s
   reads_on at₁ vs₂ s f g =
       let take-of : take (p + length a) vs₂ ≡ take (p + length a) vs₁ → take p vs₂ ≡ take p vs₁ =
@@ -83,8 +81,8 @@ module _ (a b : List Row) (bits : List Bool) (at p : ℕ) (vs vs₁ : List ℕ) 
         size = g.size ∙ f.size;
       }
 
-  pub reads-stop : (n : Refusal) (x : ℕ) → Reads a bits at p vs vs₁ (Refused n x) → Reads (a ++ b) bits at p vs vs₁ (Refused n x)
-  reads-stop n x f =
+  pub reads-stop : (r : Refused) → Reads a bits at p vs vs₁ (Err r) → Reads (a ++ b) bits at p vs vs₁ (Err r)
+  reads-stop r f =
       record {
         same = λ rest. ap (λ (l : List Row). read_rows l (take p vs) at (drop at bits)) (append_assoc a b rest) ∙ f.same (b ++ rest);
         before = f.before;
@@ -93,16 +91,16 @@ module _ (a b : List Row) (bits : List Bool) (at p : ℕ) (vs vs₁ : List ℕ) 
       }
 
 -- over no rows nothing happens
-pub reads_none : (bits : List Bool) (at p : ℕ) (vs : List ℕ) → Reads [] bits at p vs vs (Next at)
+pub reads_none : (bits : List Bool) (at p : ℕ) (vs : List ℕ) → Reads [] bits at p vs vs (Ok at)
 reads_none bits at p vs = record { same = λ rest. rw (add-zero p); before = refl; stays = refl; size = refl }
 
 -- ---- a field is the row's bits
 -- what taking a field finds
-abbrev pub Seen : List ℕ → ℕ → ℕ → ℕ → Taken → Type 0
-Seen bytes count at w (Value v) = (at + w ≤ count) × (v ≡ value (take w (drop at (whole bytes count))))
-Seen bytes count at w Cut = count < at + w
+abbrev pub Seen : List ℕ → ℕ → ℕ → ℕ → Option ℕ → Type 0
+Seen bytes count at w (Some v) = (at + w ≤ count) × (v ≡ value (take w (drop at (whole bytes count))))
+Seen bytes count at w None = count < at + w
 
-pub seen : (bytes : List ℕ) (count at w : ℕ) → count ≤ 8 * length bytes → w ≤ 32 → (t : Taken) → t ≡ field_at bytes count at w → Seen bytes count at w t
+pub seen : (bytes : List ℕ) (count at w : ℕ) → count ≤ 8 * length bytes → w ≤ 32 → (t : Option ℕ) → t ≡ field_at bytes count at w → Seen bytes count at w t
 seen bytes count at w lent few t e = subst (Seen bytes count at w) (sym e) (go (dec_lt count (at + w)))
   where
     go : Dec (count < at + w) → Seen bytes count at w (field_at bytes count at w)
@@ -113,49 +111,49 @@ pub whole_length : (bytes : List ℕ) (count : ℕ) → count ≤ 8 * length byt
 whole_length bytes count lent = length-take-le count (bits_of bytes) (omega (arith, length-bits_of bytes))
 
 -- what the row's turn then is
-abbrev Found : Row → List ℕ → ℕ → ℕ → Taken → Type 0
-Found r bytes count at (Value v) = turn r (drop at (whole bytes count)) ≡ cond (ltb v r.codes) (took (r.first + v)) (stop r.refusal r.back)
-Found r bytes count at Cut = turn r (drop at (whole bytes count)) ≡ stop EndsInside 0
+abbrev Found : Row → List ℕ → ℕ → ℕ → Option ℕ → Type 0
+Found r bytes count at (Some v) = turn r (drop at (whole bytes count)) ≡ cond (ltb v r.codes) (took (r.first + v)) (stop r.refusal r.back)
+Found r bytes count at None = turn r (drop at (whole bytes count)) ≡ stop EndsInside 0
 
 module _ (r : Row) (bytes : List ℕ) (count at : ℕ) (lent : count ≤ 8 * length bytes) (some : 0 < r.width) where
   left_over : length (drop at (whole bytes count)) ≡ count - at
   left_over = length-drop at (whole bytes count) ∙ ap (λ (n : ℕ). n - at) (whole_length bytes count lent)
 
-  found : (t : Taken) → Seen bytes count at r.width t → Found r bytes count at t
-  found (Value v) s = rw (le-ltb (length (drop at (whole bytes count))) r.width (omega (arith, left_over, s.0)), ← s.1)
-  found Cut s = rw (lt-ltb (length (drop at (whole bytes count))) r.width (omega (arith, left_over)))
+  found : (t : Option ℕ) → Seen bytes count at r.width t → Found r bytes count at t
+  found (Some v) s = rw (le-ltb (length (drop at (whole bytes count))) r.width (omega (arith, left_over, s.0)), ← s.1)
+  found None s = rw (lt-ltb (length (drop at (whole bytes count))) r.width (omega (arith, left_over)))
 
 module _ (f : Field) (bytes : List ℕ) (count at p : ℕ) (vs : List ℕ) (lent : count ≤ 8 * length bytes) (narrow : Narrow f) where
-  met : (t : Taken) → t ≡ field_at bytes count at f.width → Found (row_for f []) bytes count at t
+  met : (t : Option ℕ) → t ≡ field_at bytes count at f.width → Found (row_for f []) bytes count at t
   met t e = found (row_for f []) bytes count at lent narrow.some t (seen bytes count at f.width lent narrow.few t e)
 
-  pub field_end : (v : ℕ) → Value v ≡ field_at bytes count at f.width → at + f.width ≤ count
-  field_end v e = (seen bytes count at f.width lent narrow.few (Value v) e).0
+  pub field_end : (v : ℕ) → Some v ≡ field_at bytes count at f.width → at + f.width ≤ count
+  field_end v e = (seen bytes count at f.width lent narrow.few (Some v) e).0
 
   module _ (inside : p < length vs) where
-    pub field-good : (v : ℕ) → Value v ≡ field_at bytes count at f.width → v < f.codes
-        → Reads (row_for f [] ∷ []) (whole bytes count) at p vs (set vs p (f.first + v)) (Next (at + f.width))
+    pub field-good : (v : ℕ) → Some v ≡ field_at bytes count at f.width → v < f.codes
+        → Reads (row_for f [] ∷ []) (whole bytes count) at p vs (set vs p (f.first + v)) (Ok (at + f.width))
     unfolding present
     field-good v e l =
-        row-took (row_for f []) (whole bytes count) at p vs inside refl (f.first + v) (met (Value v) e ∙ rw (lt-ltb v f.codes l))
+        row-took (row_for f []) (whole bytes count) at p vs inside refl (f.first + v) (met (Some v) e ∙ rw (lt-ltb v f.codes l))
 
     stopped : (n : Refusal) → turn (row_for f []) (drop at (whole bytes count)) ≡ stop n 0
-        → Reads (row_for f [] ∷ []) (whole bytes count) at p vs vs (Refused n at)
+        → Reads (row_for f [] ∷ []) (whole bytes count) at p vs vs (Err (record { refusal = n; bit = at }))
     unfolding present
     stopped n t =
-        subst (λ (x : ℕ). Reads (row_for f [] ∷ []) (whole bytes count) at p vs vs (Refused n x)) (sub-zero at)
+        subst (λ (x : ℕ). Reads (row_for f [] ∷ []) (whole bytes count) at p vs vs (Err (record { refusal = n; bit = x }))) (sub-zero at)
         (row-stop (row_for f []) (whole bytes count) at p vs inside refl n 0 t)
 
-    pub field-bad : (v : ℕ) → Value v ≡ field_at bytes count at f.width → f.codes ≤ v
-        → Reads (row_for f [] ∷ []) (whole bytes count) at p vs vs (Refused f.refusal at)
-    field-bad v e l = stopped f.refusal (met (Value v) e ∙ rw (le-ltb v f.codes l))
+    pub field-bad : (v : ℕ) → Some v ≡ field_at bytes count at f.width → f.codes ≤ v
+        → Reads (row_for f [] ∷ []) (whole bytes count) at p vs vs (Err (record { refusal = f.refusal; bit = at }))
+    field-bad v e l = stopped f.refusal (met (Some v) e ∙ rw (le-ltb v f.codes l))
 
-    pub field-short : Cut ≡ field_at bytes count at f.width → Reads (row_for f [] ∷ []) (whole bytes count) at p vs vs (Refused EndsInside at)
-    field-short e = stopped EndsInside (met Cut e)
+    pub field-short : None ≡ field_at bytes count at f.width → Reads (row_for f [] ∷ []) (whole bytes count) at p vs vs (Err (record { refusal = EndsInside; bit = at }))
+    field-short e = stopped EndsInside (met None e)
 
 -- a row is read under more conditions, which hold, as it is read without
 module _ (w first codes : ℕ) (n : Refusal) (back : ℕ) (own hang : List Condition) (more : List Row)
-    (bits : List Bool) (at p : ℕ) (vs vs' : List ℕ) (s : Step) where
+    (bits : List Bool) (at p : ℕ) (vs vs' : List ℕ) (s : Result ℕ Refused) where
   pub reads-under : present (take p vs) hang ≡ true → Reads (row w first codes n back own ∷ more) bits at p vs vs' s
       → Reads (row w first codes n back (own ++ hang) ∷ more) bits at p vs vs' s
   unfolding read_rows present
@@ -169,25 +167,25 @@ module _ (w first codes : ℕ) (n : Refusal) (back : ℕ) (own hang : List Condi
       }
 
 -- ---- reading is a walk
-abbrev pub Stop : Step → Type 0
-Stop (Next at) = ⊥
-Stop (Refused n x) = Unit {0}
+abbrev pub Stop : Result ℕ Refused → Type 0
+Stop (Ok at) = ⊥
+Stop (Err r) = Unit {0}
 
-pub told : (s : Step) → ((at : ℕ) × (s ≡ Next at)) ⊎ Stop s
-told (Next at) = inl (at, refl)
-told (Refused n x) = inr tt
+pub told : (s : Result ℕ Refused) → ((at : ℕ) × (s ≡ Ok at)) ⊎ Stop s
+told (Ok at) = inl (at, refl)
+told (Err r) = inr tt
 
-pub reads-after : (a b : List Row) (bits : List Bool) (at p : ℕ) (vs vs₁ : List ℕ) (s : Step)
+pub reads-after : (a b : List Row) (bits : List Bool) (at p : ℕ) (vs vs₁ : List ℕ) (s : Result ℕ Refused)
     → Stop s → Reads a bits at p vs vs₁ s → Reads (a ++ b) bits at p vs vs₁ s
-reads-after a b bits at p vs vs₁ (Refused n x) h f = reads-stop a b bits at p vs vs₁ n x f
-reads-after a b bits at p vs vs₁ (Next at₁) h f = absurd h
+reads-after a b bits at p vs vs₁ (Err r) h f = reads-stop a b bits at p vs vs₁ r f
+reads-after a b bits at p vs vs₁ (Ok at₁) h f = absurd h
 
 abbrev pub reading : List Bool → Walk
 reading bits =
     record {
       State = List ℕ;
-      Result = Step;
-      next = Next;
+      Result = Result ℕ Refused;
+      next = Ok;
       Stops = Stop;
       told = told;
       values = λ vs. vs;

@@ -1,20 +1,24 @@
 -- `reading::read_frame` meets its contract: the bit count against the lent bits, the head, the elements.
 -- Assumes nothing.
-use mathlib.Core.Path.{◌∙◌}
+use mathlib.Core.Path.{ap, ◌∙◌}
 use native.Mathlib.Omega.{arith}
+use Rattle.std.specs.Prelude.{Err}
+use Rattle.layout.specs.Frame.{as_reading}
+use Rattle.reading.proofs.FillLaws.{left_by}
 use Rattle.reading.proofs.Going.{reading-lent, reading-on}
 use Rattle.reading.proofs.read_frame.Goals as goal
 
 pub returns-then-frame-bits : goal.returns-then-frame-bits
+unfolding as_reading
 returns-then-frame-bits c =
-    c.refused.ensures ∙ reading-lent c.args.kind c.args.frame.now c.args.bits (omega arith)
+    ap Err c.refused.ensures ∙ reading-lent c.args.kind c.args.frame.now c.args.bits (omega arith)
 
-pub returns-in-Next : goal.returns-in-Next
-returns-in-Next c =
-    c.read_elements.ensures
-    ∙ reading-on c.args.kind c.args.frame.now c.args.bits _ _ (omega arith) c.read_head.ensures c.in-Next.is
+pub returns-in_err-at : goal.returns-in_err-at
+unfolding as_reading
+returns-in_err-at c =
+    left_by c.from_residual.result c.from_residual.ensures.1
+    ∙ reading-on c.args.kind c.args.frame.now c.args.bits _ _ (omega arith) c.head.ensures c.in_err-at.was
 
-pub returns-in-Refused : goal.returns-in-Refused
-returns-in-Refused c =
-    c.refused-in-Refused.ensures
-    ∙ reading-on c.args.kind c.args.frame.now c.args.bits _ _ (omega arith) c.read_head.ensures c.in-Refused.is
+pub returns : goal.returns
+returns c =
+    c.elements.ensures ∙ reading-on c.args.kind c.args.frame.now c.args.bits _ _ (omega arith) c.head.ensures c.in_ok-at.was
