@@ -12,13 +12,14 @@ use lib.Dec.{ltb, eqb}
 use lib.ListN.{length, take, get_or, length-append, length-take, get_or-eq_default}
 use lib.Seq.{get_or-take}
 use Rattle.layout.specs.Row.{Row, Condition, is, at_least, nothing_since, holds, all, present}
-use Rattle.layout.specs.Shape.{identity, No, least, times, item, stride, repeated, rows_of, span}
+use Rattle.layout.specs.Shape.{identity, No, least, times, item, stride, repeated, rows_of, span, conditions_of}
+use Rattle.layout.specs.declared.When.{When}
+use Rattle.layout.specs.declared.When.TheVariants.{Always, Is, All}
 use Rattle.layout.specs.declared.Items.{Items}
 use Rattle.layout.specs.declared.Items.TheVariants.{Numbers, Letters}
 use Rattle.layout.specs.declared.Shape.{Shape}
 use Rattle.layout.specs.declared.Shape.TheVariants.{Number, Choice, Identity, Ending, Missing, Nothing}
 use Rattle.layout.specs.declared.Shape.TheVariants as shape
-use Rattle.table.specs.Coding.{outer, inner, place, value, byte, hang_of}
 use Rattle.table.specs.Sound.{Clear}
 use Rattle.table.proofs.Walks.{Walk}
 use Rattle.layout.proofs.Tests.{and-false}
@@ -143,22 +144,13 @@ length-shape Ending hang p = refl
 length-shape (Missing q) hang p = refl
 length-shape (Nothing o) hang p = refl
 
--- a line's conditions look at the record so far; what holds of the whole, holds of it
-pub present-hang : (n : ℕ) (vs : List ℕ) (p : ℕ) → Clear vs p → present (take p vs) (hang_of n) ≡ present vs (hang_of n)
-unfolding hang_of present
-present-hang n vs p z = go (eqb (byte n outer) 0) (eqb (byte n value) 0)
-  where
-    chain : List Condition
-    chain = is (byte n outer) 1 ∷ is (byte n inner) 1 ∷ []
+-- an element's conditions look at the record so far; what holds of the whole, holds of it
+pub present-before : (when : When) (vs : List ℕ) (p : ℕ) → Clear vs p → present (take p vs) (conditions_of when) ≡ present vs (conditions_of when)
+unfolding present
+present-before Always vs p z = refl
+present-before (Is place v) vs p z = rw (get_or-clear vs p place z)
+present-before (All a b place v) vs p z = rw (get_or-clear vs p a z, get_or-clear vs p b z, get_or-clear vs p place z)
 
-    own : List Condition
-    own = is (byte n place) (byte n value) ∷ []
-
-    go : (a b : Bool) → all (holds (take p vs)) (cond a [] chain ++ cond b [] own) ≡ all (holds vs) (cond a [] chain ++ cond b [] own)
-    go true true = refl
-    go true false = rw (get_or-clear vs p (byte n place) z)
-    go false true = rw (get_or-clear vs p (byte n inner) z, get_or-clear vs p (byte n outer) z)
-    go false false = rw (get_or-clear vs p (byte n inner) z, get_or-clear vs p (byte n outer) z, get_or-clear vs p (byte n place) z)
-
-pub shut-element : (n : ℕ) (s : Shape) (p : ℕ) (vs : List ℕ) → present vs (hang_of n) ≡ false → Clear vs p → Shut vs p (rows_of s (hang_of n) p)
-shut-element n s p vs e z = shut-shape vs p z s (hang_of n) (λ m l. present-hang n vs m (λ q h. z q (omega arith)) ∙ e)
+pub shut-element : (when : When) (s : Shape) (p : ℕ) (vs : List ℕ) → present vs (conditions_of when) ≡ false → Clear vs p
+    → Shut vs p (rows_of s (conditions_of when) p)
+shut-element when s p vs e z = shut-shape vs p z s (conditions_of when) (λ m l. present-before when vs m (λ q h. z q (omega arith)) ∙ e)

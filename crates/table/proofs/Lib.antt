@@ -4,6 +4,5 @@ pub mod IdentityLaws
 pub mod ListLaws
 pub mod ShapeLaws
 pub mod FieldLaws
-pub mod TestLaws
 pub mod TableLaws
 pub mod Unique

@@ -16,26 +16,20 @@ use Rattle.table.proofs.items.least_for.Kinds as least-for-kinds
 use Rattle.table.proofs.items.least_for.Reads as least-for
 use Rattle.table.proofs.items.stride_of.Kinds as stride-of-kinds
 use Rattle.table.proofs.items.stride_of.Reads as stride-of
+use Rattle.table.proofs.items.places_of.Kinds as places-of-kinds
+use Rattle.table.proofs.items.places_of.Reads as places_of
 use Rattle.table.proofs.items.times_of.Kinds as times-of-kinds
 use Rattle.table.proofs.items.times_of.Reads as times-of
-use Rattle.table.proofs.lines.line.Kinds as line-kinds
-use Rattle.table.proofs.lines.line.Reads as line
-use Rattle.table.proofs.lines.first_line.Kinds as first-line-kinds
-use Rattle.table.proofs.lines.first_line.Reads as first-line
-use Rattle.table.proofs.lines.end_line.Kinds as end-line-kinds
-use Rattle.table.proofs.lines.end_line.Reads as end_line
-use Rattle.table.proofs.coding.shape_of.Kinds as shape-of-kinds
-use Rattle.table.proofs.coding.shape_of.Reads as shape_of
-use Rattle.table.proofs.coding.places_of.Kinds as places-of-kinds
-use Rattle.table.proofs.coding.places_of.Reads as places_of
+use Rattle.table.proofs.lines.table_of.Kinds as table-of-kinds
+use Rattle.table.proofs.lines.table_of.Reads as table_of
 use Rattle.table.proofs.lines.action_type.Kinds as action-type-kinds
 use Rattle.table.proofs.lines.action_type.Reads as action-type
 use Rattle.table.proofs.place.kind_places.Kinds as kind-places-kinds
 use Rattle.table.proofs.place.kind_places.Reads as kind-places
 use Rattle.table.proofs.tests.holds.Kinds as holds-kinds
 use Rattle.table.proofs.tests.holds.Reads as holds
-use Rattle.table.proofs.coding.there.Kinds as there-kinds
-use Rattle.table.proofs.coding.there.Reads as there
+use Rattle.table.proofs.tests.there.Kinds as there-kinds
+use Rattle.table.proofs.tests.there.Reads as there
 use Rattle.table.proofs.tests.nothing_since.Kinds as nothing-since-kinds
 use Rattle.table.proofs.tests.nothing_since.Reads as nothing-since
 
@@ -63,20 +57,13 @@ stride-of-unique κs a r r' s s' p q = p ∙ sym q
 pub times-of-unique : Unique times-of-kinds.ps times-of-kinds.r times-of.Post
 times-of-unique κs a r r' s s' p q = p ∙ sym q
 
-pub line-unique : Unique line-kinds.ps line-kinds.r line.Post
-line-unique κs a r r' s s' p q = p ∙ sym q
-
-pub first-line-unique : Unique first-line-kinds.ps first-line-kinds.r first-line.Post
-first-line-unique κs a r r' s s' p q = p ∙ sym q
-
-pub end-line-unique : Unique end-line-kinds.ps end-line-kinds.r end_line.Post
-end-line-unique κs a r r' s s' p q = p ∙ sym q
-
-pub shape-of-unique : Unique shape-of-kinds.ps shape-of-kinds.r shape_of.Post
-shape-of-unique κs a r r' s s' p q = p ∙ sym q
-
 pub places-of-unique : Unique places-of-kinds.ps places-of-kinds.r places_of.Post
 places-of-unique κs a r r' s s' p q = p ∙ sym q
+
+-- the same elements
+module _ (κs : Lfts 1) (a : Dens κs table-of-kinds.ps) (r r' : (res_t table-of-kinds.r κs).Denot) (s s' : AtExit (ended_of 1 table-of-kinds.ps table-of-kinds.r) κs) where
+  pub table-of-unique : table_of.Post κs a r s → table_of.Post κs a r' s' → r.now ≡ r'.now
+  table-of-unique p q = p ∙ sym q
 
 pub action-type-unique : Unique action-type-kinds.ps action-type-kinds.r action-type.Post
 action-type-unique κs a r r' s s' p q = p ∙ sym q

@@ -1,8 +1,9 @@
-// The items of a list.
+// The items of a list, and the places of a shape.
 ghost use Rattle.std.specs.Prelude.{◌≡◌};
-ghost use Rattle.layout.specs.Shape.{times, least, stride};
+ghost use Rattle.layout.specs.Shape.{times, least, stride, span};
 
-use layout::Items;
+use crate::place::{IDENTITY_PLACES, NAME_PLACES, NUMBERS_PLACES};
+use layout::{Items, Shape};
 
 // What a list's count holds, at least, where item `i` is there.
 pub fn least_for(items: Items, i: u8) -> u32
@@ -32,5 +33,22 @@ pub fn times_of(items: Items) -> u8
     match items {
         Items::Numbers => 10,
         Items::Letters => 16,
+    }
+}
+
+// The places that a shape takes.
+#[tactic(auto, unfolding(layout::specs::Shape::span))]
+pub fn places_of(shape: Shape) -> usize
+    ensures { result ≡ span shape }
+{
+    match shape {
+        Shape::Identity => IDENTITY_PLACES,
+        Shape::List(Items::Numbers) => NUMBERS_PLACES,
+        Shape::List(Items::Letters) => NAME_PLACES,
+        Shape::Number(_)
+        | Shape::Choice(_, _)
+        | Shape::Ending
+        | Shape::Missing(_)
+        | Shape::Nothing(_) => 1,
     }
 }

@@ -2,7 +2,6 @@
 
 // The tables as the code goes by them, and what the reader and the writer both ask of an element and of a record.
 // Every function takes any input, so that neither walk has to be trusted.
-pub mod coding;
 pub mod fields;
 pub mod items;
 pub mod lines;

@@ -1,7 +1,14 @@
-// The lines of CANCEL and CANCEL-ACK, tables 33 and 34, that hang on another: these tables begin alike.
-use crate::coding::*;
+// CANCEL, table 33.
+use super::YES_NO;
 use crate::place::cancel::*;
+use crate::place::{NO, YES};
+use layout::Element;
+use layout::Shape::{Identity, Number};
+use layout::When::{Always, Is};
 
-pub const CALL_LINE: u64 = NUMBER_14 + CALL_RELATED as u64 * PLACE + IS_YES;
-
-pub const GROUP_LINE: u64 = IDENTITY + CALL_RELATED as u64 * PLACE + IS_NO;
+pub static TABLE: [Element; 4] = [
+    Element(Always, YES_NO),
+    Element(Is(CALL_RELATED as u8, YES as u8), Number(14)),
+    Element(Is(CALL_RELATED as u8, NO as u8), Identity),
+    Element(Always, Identity),
+];

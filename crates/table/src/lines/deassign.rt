@@ -1,18 +1,20 @@
-// The lines of DEASSIGN, table 25, that hang on another.
-use crate::coding::*;
+// DEASSIGN, table 25.
+use super::{BIT, NUMBERS, REQUESTED};
 use crate::place::deassign::*;
+use layout::Shape::{Ending, Nothing};
+use layout::When::{All, Always, Is};
+use layout::{Element, When};
 
-// After O-bit 1; and where the P-bit at a place, which is to be added, is 1 besides.
-const O: u64 = O_BIT as u64;
+// After O-bit 1.
+const O: u8 = O_BIT as u8;
 
-const OPTION: u64 = O * PLACE + IS_ONE;
+const OPTION: When = Is(O, 1);
 
-const AFTER: u64 = O * CHAIN + IS_ONE;
-
-pub const P_BIT: u64 = BIT + OPTION;
-
-pub const ACKNOWLEDGEMENT_LINE: u64 = REQUESTED + AFTER + ACKNOWLEDGEMENT_GIVEN as u64 * PLACE;
-
-pub const M_BIT: u64 = ENDING + OPTION;
-
-pub const NOTHING_LINE: u64 = NOTHING + O * FIRST + OPTION;
+pub static TABLE: [Element; 6] = [
+    Element(Always, NUMBERS),
+    Element(Always, BIT),
+    Element(OPTION, BIT),
+    Element(All(O, O, ACKNOWLEDGEMENT_GIVEN as u8, 1), REQUESTED),
+    Element(OPTION, Ending),
+    Element(OPTION, Nothing(O)),
+];

@@ -1,14 +1,22 @@
-// The lines of DEFINE-ACK, table 20, that hang on another.
-use crate::coding::*;
+// DEFINE-ACK, table 20.
+use super::{BIT, NUMBERS, YES_NO};
+use crate::place::YES;
 use crate::place::define_ack::*;
-
-pub const CALL_LINE: u64 = NUMBER_14 + CALL_RELATED as u64 * PLACE + IS_YES;
+use layout::Shape::{Ending, Nothing, Number};
+use layout::When::{Always, Is};
+use layout::{Element, When};
 
 // After O-bit 1.
-const O: u64 = O_BIT as u64;
+const O: u8 = O_BIT as u8;
 
-const OPTION: u64 = O * PLACE + IS_ONE;
+const OPTION: When = Is(O, 1);
 
-pub const M_BIT: u64 = ENDING + OPTION;
-
-pub const NOTHING_LINE: u64 = NOTHING + O * FIRST + OPTION;
+pub static TABLE: [Element; 7] = [
+    Element(Always, YES_NO),
+    Element(Is(CALL_RELATED as u8, YES as u8), Number(14)),
+    Element(Always, NUMBERS),
+    Element(Always, Number(4)),
+    Element(Always, BIT),
+    Element(OPTION, Ending),
+    Element(OPTION, Nothing(O)),
+];

@@ -1,21 +1,25 @@
-// The lines of DELETE, table 21, that hang on another.
-use crate::coding::*;
+// DELETE, table 21.
+use super::{BIT, NUMBERS, REQUESTED, YES_NO};
+use crate::place::YES;
 use crate::place::delete::*;
+use layout::Shape::{Ending, Nothing};
+use layout::When::{All, Always, Is};
+use layout::{Element, When};
 
-// After O-bit 1; and where the P-bit at a place, which is to be added, is 1 besides.
-const O: u64 = O_BIT as u64;
+// After O-bit 1.
+const O: u8 = O_BIT as u8;
 
-const OPTION: u64 = O * PLACE + IS_ONE;
+const OPTION: When = Is(O, 1);
 
-const AFTER: u64 = O * CHAIN + IS_ONE;
-
-// The users hang on "removed", with no P-bit of their own.
-pub const RADIOS_LINE: u64 = NUMBERS + O * CHAIN + REMOVED as u64 * PLACE + IS_YES;
-
-pub const P_BIT: u64 = BIT + OPTION;
-
-pub const ACKNOWLEDGEMENT_LINE: u64 = REQUESTED + AFTER + ACKNOWLEDGEMENT_GIVEN as u64 * PLACE;
-
-pub const M_BIT: u64 = ENDING + OPTION;
-
-pub const NOTHING_LINE: u64 = NOTHING + O * FIRST + OPTION;
+pub static TABLE: [Element; 9] = [
+    Element(Always, NUMBERS),
+    Element(Always, YES_NO),
+    Element(Always, YES_NO),
+    Element(Always, BIT),
+    // The users hang on "removed", with no P-bit of their own.
+    Element(All(O, O, REMOVED as u8, YES as u8), NUMBERS),
+    Element(OPTION, BIT),
+    Element(All(O, O, ACKNOWLEDGEMENT_GIVEN as u8, 1), REQUESTED),
+    Element(OPTION, Ending),
+    Element(OPTION, Nothing(O)),
+];

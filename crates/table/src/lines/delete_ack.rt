@@ -1,12 +1,19 @@
-// The lines of DELETE-ACK, table 22, that hang on another.
-use crate::coding::*;
+// DELETE-ACK, table 22.
+use super::{BIT, NUMBERS};
 use crate::place::delete_ack::*;
+use layout::Shape::{Ending, Nothing, Number};
+use layout::When::{Always, Is};
+use layout::{Element, When};
 
 // After O-bit 1.
-const O: u64 = O_BIT as u64;
+const O: u8 = O_BIT as u8;
 
-const OPTION: u64 = O * PLACE + IS_ONE;
+const OPTION: When = Is(O, 1);
 
-pub const M_BIT: u64 = ENDING + OPTION;
-
-pub const NOTHING_LINE: u64 = NOTHING + O * FIRST + OPTION;
+pub static TABLE: [Element; 5] = [
+    Element(Always, NUMBERS),
+    Element(Always, Number(4)),
+    Element(Always, BIT),
+    Element(OPTION, Ending),
+    Element(OPTION, Nothing(O)),
+];
