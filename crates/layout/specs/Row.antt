@@ -1,6 +1,6 @@
 -- A frame is a table of rows, and a row is one run of bits. A record is a list of numbers, a place for each row in the rows' order, 0 where the row is not there.
 -- Assumes nothing.
-use Rattle.std.specs.Prelude.{ℕ, suc, ◌^◌, ◌≤◌, ◌≡◌, Bool, true, cond, ◌&&◌, List, [], ◌∷◌, leb, eqb, drop, get_or}
+use Rattle.std.specs.Prelude.{ℕ, suc, ◌^◌, ◌≤◌, ◌≡◌, Bool, cond, List, [], leb, eqb, drop, get_or}
 pub use Rattle.std.specs.List.{list_all as all}
 use Rattle.refusal.specs.declared.Refusal.{Refusal}
 use Rattle.refusal.specs.declared.Refusal.TheVariants.{Reserved}

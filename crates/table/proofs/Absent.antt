@@ -8,10 +8,10 @@ use native.Mathlib.Nat.{add-zero, min-le_left, mul-suc}
 use native.Mathlib.Omega.{arith}
 use native.Mathlib.Decide.{dec_lt}
 use borrow.Author.Tests.{lt-leb, ne_eqb}
-use lib.Dec.{ltb, eqb}
+use lib.Dec.{ltb}
 use lib.ListN.{length, take, get_or, length-append, length-take, get_or-eq_default}
 use lib.Seq.{get_or-take}
-use Rattle.layout.specs.Row.{Row, Condition, is, at_least, nothing_since, holds, all, present}
+use Rattle.layout.specs.Row.{Row, Condition, is, at_least, nothing_since, holds, present}
 use Rattle.layout.specs.Shape.{identity, No, least, times, item, stride, repeated, rows_of, span, conditions_of}
 use Rattle.layout.specs.declared.When.{When}
 use Rattle.layout.specs.declared.When.TheVariants.{Always, Is, All}
