@@ -1,17 +1,16 @@
 -- The samples that are proved, in one table, and what it is that each of them passes: document 01's starred ones, two of each frame of P1,
 -- two radios with one SSI (P3), ranges (P5), owners added and handed over (P6), and radios that let go or would not (P7).
 -- Assumes nothing.
-use Rattle.std.specs.Prelude.{ℕ, zero, suc, ◌-◌, Bool, true, false, ◌&&◌, List, [], ◌∷◌, ◌++◌, map, eqb, length, replicate}
+use Rattle.std.specs.Prelude.{ℕ, zero, suc, ◌-◌, Bool, true, false, ◌&&◌, List, [], ◌∷◌, ◌++◌, map, eqb, length, replicate, Result, Ok, Err}
 use Rattle.std.proofs.Math.Option.{Option, none, some}
 use Rattle.refusal.specs.Number.{number_of}
+use Rattle.refusal.specs.declared.Refusal.{Refusal}
 use Rattle.layout.specs.declared.Kind.{Kind}
 use Rattle.layout.specs.declared.Kind.TheVariants.{Define, DefineAck, Cancel, CancelAck, Assign, AssigningAck, Deassign, DeassigningAck, Delete, DeleteAck}
-use Rattle.layout.specs.declared.Verdict.{Verdict}
-use Rattle.layout.specs.declared.Verdict.TheVariants as verdict
-use Rattle.layout.specs.declared.Written.{Written}
-use Rattle.layout.specs.declared.Written.TheVariants as written
+use Rattle.layout.specs.declared.Record.{Record}
+use Rattle.layout.specs.declared.Refused.{Refused}
 use Rattle.layout.specs.Shape.{Yes, No}
-use Rattle.layout.specs.Frame.{places, reading_of, written_of, output_of}
+use Rattle.layout.specs.Frame.{filled, reading_of, written_of, output_of}
 use Rattle.rules.specs.Number.{Numbers, key, plain}
 use Rattle.rules.specs.declared.AnswerKind.{AnswerKind}
 use Rattle.rules.specs.declared.AnswerKind.TheVariants.{Assignment, Deassignment}
@@ -306,21 +305,18 @@ same [] (y ∷ ys) = false
 same (x ∷ xs) [] = false
 same (x ∷ xs) (y ∷ ys) = eqb x y && same xs ys
 
--- a record's places, the rest of them 0
-abbrev filled : List ℕ → List ℕ
-filled s = s ++ replicate (places - length s) 0
+-- this record is read, the rest of its places 0
+abbrev reads : List ℕ → Result Record Refused → Bool
+reads s (Ok r) = same r.place (filled s)
+reads s (Err e) = false
 
-abbrev accepts : Verdict → Bool
-accepts verdict.Frame = true
-accepts (verdict.Refused n at) = false
+abbrev refuses_with : ℕ → ℕ → Result Record Refused → Bool
+refuses_with n bit (Ok r) = false
+refuses_with n bit (Err e) = eqb (number_of e.refusal) n && eqb e.bit bit
 
-abbrev refuses_with : ℕ → ℕ → Verdict → Bool
-refuses_with n bit verdict.Frame = false
-refuses_with n bit (verdict.Refused r at) = eqb (number_of r) n && eqb at bit
-
-abbrev writes : ℕ → Written → Bool
-writes n (written.Bits m) = eqb m n
-writes n (written.Refused r) = false
+abbrev writes : ℕ → Result ℕ Refusal → Bool
+writes n (Ok m) = eqb m n
+writes n (Err r) = false
 
 abbrev same_entries : List Entry → List Entry → Bool
 same_entries [] [] = true
@@ -344,15 +340,11 @@ shows n owners reply = eqb (reply_number reply.refused) n && same reply.owners (
 -- the reader's answer, and the writer's into that many zero bytes
 unfoldable pub passes : Sample → Bool
 passes (taken kind count bytes s) =
-    let reading = reading_of kind bytes count in
     let size = length bytes in
-    accepts reading.verdict
-    && same reading.values.place (filled s)
+    reads s (reading_of kind bytes count)
     && writes count (written_of kind s size 0)
     && same (output_of kind s (replicate size 0) 0) bytes
-passes (refused kind count bytes n bit) =
-    let reading = reading_of kind bytes count in
-    refuses_with n bit reading.verdict && same reading.values.place (filled [])
+passes (refused kind count bytes n bit) = refuses_with n bit (reading_of kind bytes count)
 -- by what the history means, and on the abstract ledger after it, by arrival as by number
 passes (ordered x before next n entries) =
     eqb (reply_number (refusal_in before next)) n
