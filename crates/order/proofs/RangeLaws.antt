@@ -86,10 +86,9 @@ module _ (home : ℕ) (l : List Identity) (d : Identity) (h : length l ≡ 10) w
       go true e = q ∙ ap (λ (z : List number.Identity). crossed (map (identified home) z)) (sym (range-ends code e))
       go false e = refl
 
-  pub range-long : (code most : ℕ) (b : Bool) → 10 ≤ most → b ≡ ltb most (span (identity_key home (end 0)) (identity_key home (end 1)))
-      → (eqb code 1 && b) ≡ too_many most home (some (numbers_as code l))
-  range-long code most b few q = go (eqb code 1) refl
-    where
-      go : (t : Bool) → eqb code 1 ≡ t → (t && b) ≡ ltb most (length (numbers home (numbers_as code l)))
-      go true e = q ∙ ap (ltb most) (sym (ap length (ends-numbers code e) ∙ consecutive-length (identity_key home (end 0)) _))
-      go false e = sym (le-ltb most (length (numbers home (numbers_as code l))) (omega (arith, listed-few code e)))
+  pub range-long : (code most : ℕ) (b : Bool) → eqb code 1 ≡ true → b ≡ ltb most (span (identity_key home (end 0)) (identity_key home (end 1)))
+      → b ≡ too_many most home (some (numbers_as code l))
+  range-long code most b e q = q ∙ ap (ltb most) (sym (ap length (ends-numbers code e) ∙ consecutive-length (identity_key home (end 0)) _))
+
+  pub listed-short : (code most : ℕ) → 10 ≤ most → eqb code 1 ≡ false → false ≡ too_many most home (some (numbers_as code l))
+  listed-short code most few e = sym (le-ltb most (length (numbers home (numbers_as code l))) (omega (arith, listed-few code e)))

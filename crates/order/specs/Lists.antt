@@ -1,13 +1,10 @@
 -- Lists of numbers as an order lends them: number type and ten identities, given or not.
-use Rattle.std.specs.Prelude.{ℕ, Bool, List, map, Option, Some, None}
+use Rattle.std.specs.Prelude.{ℕ, List, map, Option, Some, None}
 use Rattle.std.proofs.Math.Option.{none, some}
 use Rattle.std.proofs.Math.Option as rules
-use Rattle.rules.specs.Number.{bad_identity, short}
 use Rattle.rules.specs.Number as number
 use Rattle.order.specs.declared.Identity.{Identity}
 use Rattle.order.specs.declared.Numbers.{Numbers}
-use Rattle.order.specs.declared.Fault.{Fault}
-use Rattle.order.specs.declared.Fault.TheVariants.{Bad, Short}
 
 abbrev pub identity_of : Identity → number.Identity
 identity_of i = record { form = i.form; sna = i.sna; ssi = i.ssi; extension = i.extension }
@@ -21,8 +18,3 @@ numbers_of n = numbers_as n.code n.identity
 abbrev pub list_of : Option Numbers → rules.Option number.Numbers
 list_of None = none
 list_of (Some n) = some (numbers_of n)
-
--- what is wrong with an identity: bad, or short (an SNA)
-abbrev pub faulty : Fault → number.Identity → Bool
-faulty Bad i = bad_identity i
-faulty Short i = short i

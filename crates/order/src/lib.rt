@@ -112,10 +112,3 @@ pub type Radios = Keys<RadioKey, MAX_NUMBERS>;
 
 // The owners that it gives: the asker and those of its list, each once, rising.
 pub type Owners = Keys<RadioKey, MAX_OWNERS>;
-
-// What may be wrong with an identity: bad, or short (an SNA).
-#[derive(Clone, Copy)]
-enum Fault {
-    Bad,
-    Short,
-}

@@ -1,12 +1,12 @@
 // Lists of numbers as an order lends them, and what they are refused for.
-ghost use Rattle.std.specs.Prelude.{min, ◌≡◌};
+ghost use Rattle.std.specs.Prelude.{min, map, ◌≡◌};
 ghost use Rattle.rules.specs.Lists.{mem, any};
 ghost use Rattle.rules.specs.Number.{count, used, wide, wide_number, bad_identity, bad_list, short, untaken};
 ghost use Rattle.rows.specs.Layout.{max_listed};
 ghost use Rattle.order.specs.Numbers.{radio_number, group_number};
-ghost use Rattle.order.specs.Lists.{identity_of, numbers_as, list_of, faulty};
+ghost use Rattle.order.specs.Lists.{identity_of, numbers_of, list_of};
 
-use crate::{Fault, Gtsi, Identity, Itsi, Numbers};
+use crate::{Gtsi, Identity, Itsi, Numbers};
 use rows::MAX_LISTED;
 
 // The first number that does not fit 24 bits.
@@ -23,14 +23,14 @@ fn wide(part: u32) -> bool
 pub fn wide_radio(radio: Itsi) -> bool
     ensures { result ≡ wide_number (radio_number radio) }
 {
-    wide(radio.0) | wide(radio.1)
+    wide(radio.0) || wide(radio.1)
 }
 
 // Whether a group's number has.
 pub fn wide_group(group: Gtsi) -> bool
     ensures { result ≡ wide_number (group_number group) }
 {
-    wide(group.0) | wide(group.1)
+    wide(group.0) || wide(group.1)
 }
 
 // Whether a number is in a list.
@@ -44,29 +44,19 @@ pub fn member(list: &[u64], x: u64) -> bool
 pub fn used_count(code: u32) -> usize
     ensures { result ≡ min (count code) max_listed }
 {
-    if code == 0 {
-        return 1;
+    match code {
+        0 => 1,
+        1 => 2,
+        _ => MAX_LISTED.min(code as usize),
     }
-    if code == 1 {
-        return 2;
-    }
-    if MAX_LISTED <= code as usize {
-        return MAX_LISTED;
-    }
-    code as usize
 }
 
-// Whether an identity has this fault.
-fn is_faulty(identity: Identity, fault: Fault) -> bool
-    ensures { result ≡ faulty fault (identity_of identity) }
-{
-    match fault {
-        Fault::Bad => {
-            (2 < identity.form)
-                | (((0 < identity.form) & wide(identity.ssi))
-                    | ((identity.form == 2) & wide(identity.extension)))
-        }
-        Fault::Short => identity.form == 0,
+impl Numbers {
+    // The identities in use.
+    pub(crate) fn in_use(&self) -> &[Identity]
+        ensures { map identity_of result.now ≡ used (numbers_of self.now) }
+    {
+        &self.identity[..used_count(self.code)]
     }
 }
 
@@ -74,41 +64,42 @@ fn is_faulty(identity: Identity, fault: Fault) -> bool
 pub fn bad_identity(identity: Identity) -> bool
     ensures { result ≡ bad_identity (identity_of identity) }
 {
-    is_faulty(identity, Fault::Bad)
+    2 < identity.form
+        || (0 < identity.form && wide(identity.ssi))
+        || (identity.form == 2 && wide(identity.extension))
 }
 
 // Whether an identity is an SNA.
 pub fn short(identity: Identity) -> bool
     ensures { result ≡ short (identity_of identity) }
 {
-    is_faulty(identity, Fault::Short)
+    identity.form == 0
 }
 
-// Whether an identity in use has this fault.
-fn any_faulty(code: u32, identity: [Identity; MAX_LISTED], fault: Fault) -> bool
-    ensures { result ≡ any (faulty fault) (used (numbers_as code identity)) }
+// Whether a bad identity is in use.
+fn any_bad(numbers: &Numbers) -> bool
+    ensures { result ≡ any bad_identity (used (numbers_of numbers.now)) }
 {
-    let count = used_count(code);
-    let mut i: usize = 0;
-    while i < count {
-        if is_faulty(identity[i], fault) {
-            return true;
-        }
-        i += 1;
-    }
-    false
+    numbers.in_use().iter().any(|i| bad_identity(*i))
+}
+
+// Whether an SNA is.
+fn any_short(numbers: &Numbers) -> bool
+    ensures { result ≡ any short (used (numbers_of numbers.now)) }
+{
+    numbers.in_use().iter().any(|i| short(*i))
 }
 
 // A reserved number type, or a bad identity in use.
 pub fn bad_list(list: Option<Numbers>) -> bool
     ensures { result ≡ bad_list (list_of list) }
 {
-    list.is_some_and(|n| 10 < n.code || any_faulty(n.code, n.identity, Fault::Bad))
+    list.is_some_and(|n| 10 < n.code || any_bad(&n))
 }
 
 // A form not taken: an SNA.
 pub fn untaken(list: Option<Numbers>) -> bool
     ensures { result ≡ untaken (list_of list) }
 {
-    list.is_some_and(|n| any_faulty(n.code, n.identity, Fault::Short))
+    list.is_some_and(|n| any_short(&n))
 }

@@ -4,51 +4,48 @@ ghost use Rattle.std.proofs.Math.Option.{some};
 ghost use Rattle.rules.specs.Number.{identified};
 ghost use Rattle.rules.specs.Named.{span, crossed, bad_range, too_many, max_numbers, max_listed_owners};
 ghost use Rattle.rows.specs.Layout.{max_listed};
-ghost use Rattle.order.specs.Lists.{identity_of, numbers_as, list_of};
+ghost use Rattle.order.specs.Lists.{identity_of, numbers_of, list_of};
 
 use crate::keys::{extension_in, identity_key};
 use crate::{Identity, Itsi, Numbers};
-use rows::{MAX_LISTED, MAX_LISTED_OWNERS, MAX_NUMBERS};
+use rows::{MAX_LISTED_OWNERS, MAX_NUMBERS};
 
 // "First above last or extensions differ"; `home` is the asker's extension.
 fn crossed(first: Identity, last: Identity, home: u32) -> bool
     ensures { result ≡ crossed (identified home (identity_of first) ∷ identified home (identity_of last) ∷ []) }
 {
-    (last.ssi < first.ssi) | (extension_in(first, home) != extension_in(last, home))
+    last.ssi < first.ssi || extension_in(first, home) != extension_in(last, home)
 }
 
 // A range with such ends.
-fn crossed_ends(home: u32, code: u32, identity: [Identity; MAX_LISTED]) -> bool
-    ensures { result ≡ bad_range home (some (numbers_as code identity)) }
+fn crossed_ends(home: u32, listed: &Numbers) -> bool
+    ensures { result ≡ bad_range home (some (numbers_of listed.now)) }
 {
-    (code == 1) & crossed(identity[0], identity[1], home)
+    listed.code == 1 && crossed(listed.identity[0], listed.identity[1], home)
 }
 
 // The same of a list that may not be given.
 pub fn bad_range(asker: Itsi, list: Option<Numbers>) -> bool
     ensures { result ≡ bad_range asker.1 (list_of list) }
 {
-    list.is_some_and(|n| crossed_ends(asker.1, n.code, n.identity))
+    list.is_some_and(|n| crossed_ends(asker.1, &n))
 }
 
 // Whether there are more than `most` keys from a first to a last.
 fn too_long(first: u64, last: u64, most: usize) -> bool
     ensures { result ≡ ltb most (span first last) }
 {
-    if last < first {
-        return false;
-    }
-    most as u64 <= last - first
+    first <= last && most as u64 <= last - first
 }
 
 // Whether a list names more than `most` numbers: only a range can.
-fn more_than(home: u32, code: u32, identity: [Identity; MAX_LISTED], most: usize) -> bool
+fn more_than(home: u32, listed: &Numbers, most: usize) -> bool
     requires { max_listed ≤ most }
-    ensures { result ≡ too_many most home (some (numbers_as code identity)) }
+    ensures { result ≡ too_many most home (some (numbers_of listed.now)) }
 {
-    let first = identity_key(identity[0], home);
-    let last = identity_key(identity[1], home);
-    (code == 1) & too_long(first, last, most)
+    let first = identity_key(listed.identity[0], home);
+    let last = identity_key(listed.identity[1], home);
+    listed.code == 1 && too_long(first, last, most)
 }
 
 // The same of a list that may not be given.
@@ -56,7 +53,7 @@ fn exceeds(home: u32, list: Option<Numbers>, most: usize) -> bool
     requires { max_listed ≤ most }
     ensures { result ≡ too_many most home (list_of list) }
 {
-    list.is_some_and(|n| more_than(home, n.code, n.identity, most))
+    list.is_some_and(|n| more_than(home, &n, most))
 }
 
 // Whether a list of groups or radios names too many.

@@ -5,12 +5,12 @@ ghost use Rattle.rules.specs.Number.{used, identity_key};
 ghost use Rattle.rules.specs.Named.{consecutive, span, numbers, numbers_in, max_numbers};
 ghost use Rattle.rows.specs.Layout.{max_listed};
 ghost use Rattle.order.specs.Keys.{fitting, keys_as};
-ghost use Rattle.order.specs.Lists.{numbers_as, list_of};
+ghost use Rattle.order.specs.Lists.{numbers_of, list_of};
 
 use crate::keys::{Keys, identity_key};
-use crate::lists::{member, used_count};
-use crate::{Identity, Numbers};
-use rows::{MAX_LISTED, MAX_NUMBERS};
+use crate::lists::member;
+use crate::Numbers;
+use rows::MAX_NUMBERS;
 use std::marker::PhantomData;
 
 // No keys.
@@ -25,24 +25,21 @@ fn no_keys<K>() -> Keys<K, MAX_NUMBERS>
 }
 
 // The keys of the identities in use, each once, at its first place; `home` is the asker's extension.
-fn listed_keys<K>(home: u32, code: u32, identity: [Identity; MAX_LISTED]) -> Keys<K, MAX_NUMBERS>
-    ensures { result ≡ keys_as (once (map (identity_key home) (used (numbers_as code identity)))) }
+fn listed_keys<K>(home: u32, listed: &Numbers) -> Keys<K, MAX_NUMBERS>
+    ensures { result ≡ keys_as (once (map (identity_key home) (used (numbers_of listed.now)))) }
 {
-    let used = used_count(code);
-    let mut keys = [0u64; MAX_NUMBERS];
+    let mut key = [0u64; MAX_NUMBERS];
     let mut count: usize = 0;
-    let mut i: usize = 0;
-    while i < used {
-        let x = identity_key(identity[i], home);
-        i += 1;
-        if !member(&keys[..count], x) {
-            keys[count] = x;
+    for identity in listed.in_use() {
+        let x = identity_key(*identity, home);
+        if !member(&key[..count], x) {
+            key[count] = x;
             count += 1;
         }
     }
     Keys {
         count,
-        key: keys,
+        key,
         of: PhantomData,
     }
 }
@@ -52,15 +49,13 @@ fn consecutive_keys<K>(first: u64, count: usize) -> Keys<K, MAX_NUMBERS>
     requires { (count ≤ max_numbers) × (first + count ≤ 2 ^ 64) }
     ensures { result ≡ keys_as (consecutive first count) }
 {
-    let mut keys = [0u64; MAX_NUMBERS];
-    let mut i: usize = 0;
-    while i < count {
-        keys[i] = first + i as u64;
-        i += 1;
+    let mut key = [0u64; MAX_NUMBERS];
+    for i in 0..count {
+        key[i] = first + i as u64;
     }
     Keys {
         count,
-        key: keys,
+        key,
         of: PhantomData,
     }
 }
@@ -70,32 +65,23 @@ fn range_keys<K>(first: u64, last: u64, most: usize) -> Keys<K, MAX_NUMBERS>
     requires { most ≤ max_numbers }
     ensures { result ≡ keys_as (fitting most (consecutive first (span first last))) }
 {
-    if last < first {
+    if last < first || most as u64 <= last - first {
         return no_keys();
     }
-    let behind = last - first;
-    if most as u64 <= behind {
-        return no_keys();
-    }
-    consecutive_keys(first, behind as usize + 1)
+    consecutive_keys(first, (last - first) as usize + 1)
 }
 
 // The keys of a list; none where they are more than `most`.
-fn keys_of<K>(
-    home: u32,
-    code: u32,
-    identity: [Identity; MAX_LISTED],
-    most: usize,
-) -> Keys<K, MAX_NUMBERS>
+fn keys_of<K>(home: u32, listed: &Numbers, most: usize) -> Keys<K, MAX_NUMBERS>
     requires { (max_listed ≤ most) × (most ≤ max_numbers) }
-    ensures { result ≡ keys_as (fitting most (numbers home (numbers_as code identity))) }
+    ensures { result ≡ keys_as (fitting most (numbers home (numbers_of listed.now))) }
 {
-    if code == 1 {
-        let first = identity_key(identity[0], home);
-        let last = identity_key(identity[1], home);
+    if listed.code == 1 {
+        let first = identity_key(listed.identity[0], home);
+        let last = identity_key(listed.identity[1], home);
         return range_keys(first, last, most);
     }
-    listed_keys(home, code, identity)
+    listed_keys(home, listed)
 }
 
 // The keys of a list, none where it is not given.
@@ -104,7 +90,7 @@ pub fn keys_in<K>(home: u32, list: Option<Numbers>, most: usize) -> Keys<K, MAX_
     ensures { result ≡ keys_as (fitting most (numbers_in home (list_of list))) }
 {
     match list {
-        Some(n) => keys_of(home, n.code, n.identity, most),
+        Some(listed) => keys_of(home, &listed, most),
         None => no_keys(),
     }
 }

@@ -8,27 +8,29 @@ use borrow.Author.Tests.{eq-eqb, ne_eqb}
 use Rattle.rules.specs.Named.{consecutive, numbers, span}
 use Rattle.rules.proofs.InRange.{listed-numbers}
 use Rattle.order.specs.Keys.{fitting, keys_as}
-use Rattle.order.specs.Lists.{numbers_as}
+use Rattle.order.specs.Lists.{numbers_of}
 use Rattle.order.proofs.ListLaws.{nobody}
 use Rattle.order.proofs.RangeLaws.{fitting-all, ends-numbers, listed-few}
 use borrow.Author.Rules.{rules}
 use Rattle.order.proofs.spelling.keys_of.Goals as goal
 
-pub returns-then-code-eq1 : goal.returns-then-code-eq1
-returns-then-code-eq1 g c =
+pub returns-then-listed-eq1 : goal.returns-then-listed-eq1
+returns-then-listed-eq1 g c =
     let a = c.args in
-    let ten : length a.identity ≡ 10 = search rules in
-    let range = eq-eqb a.code 1 c.if-code-eq1.true in
+    let n = a.listed.now in
+    let ten : length n.identity ≡ 10 = search rules in
+    let range = eq-eqb n.code 1 c.if-listed-eq1.true in
     let first = c.identity_key-first.ensures in
     let last = c.identity_key-last.ensures in
     c.range_keys.ensures ∙ (λ i. keys_as (fitting a.most (consecutive (first i) (span (first i) (last i)))))
-    ∙ ap (λ (l : List ℕ). keys_as (fitting a.most l)) (sym (ends-numbers a.home a.identity nobody ten a.code range))
+    ∙ ap (λ (l : List ℕ). keys_as (fitting a.most l)) (sym (ends-numbers a.home n.identity nobody ten n.code range))
 
 pub returns : goal.returns
 returns g c =
     let a = c.args in
-    let ten : length a.identity ≡ 10 = search rules in
-    let listed = ne_eqb a.code 1 c.if-code-eq1.false in
-    let all = numbers a.home (numbers_as a.code a.identity) in
-    let few : length all ≤ a.most = omega (arith, c.requires.0, listed-few a.home a.identity nobody ten a.code listed) in
-    c.listed_keys.ensures ∙ ap keys_as (sym (listed-numbers a.home (numbers_as a.code a.identity) listed) ∙ sym (fitting-all a.most all few))
+    let n = a.listed.now in
+    let ten : length n.identity ≡ 10 = search rules in
+    let listed = ne_eqb n.code 1 c.if-listed-eq1.false in
+    let all = numbers a.home (numbers_of n) in
+    let few : length all ≤ a.most = omega (arith, c.requires.0, listed-few a.home n.identity nobody ten n.code listed) in
+    c.listed_keys.ensures ∙ ap keys_as (sym (listed-numbers a.home (numbers_of n) listed) ∙ sym (fitting-all a.most all few))
