@@ -3,6 +3,7 @@
 // The refusals, one named case for each number that a caller or a printed reply may show.
 ghost use Rattle.std.specs.Prelude.{◌≡◌};
 ghost use Rattle.refusal.specs.Number.{number_of};
+ghost use Rattle.refusal.specs.Reply.{PutsRefusal};
 
 use std::fmt;
 
@@ -87,5 +88,26 @@ impl From<Refusal> for u8 {
 impl fmt::Display for Refusal {
     fn fmt<W: fmt::Write>(&self, f: &mut fmt::Formatter<W>) -> fmt::Result {
         write!(f, "{}", u8::from(*self))
+    }
+}
+
+impl Refusal {
+    // Puts R and the number, in decimal, to the front of `out`, and answers how many bytes they take: no number has more than two digits.
+    // On an `out` under three bytes it puts nothing, and answers 0.
+    pub fn put(self, out: &mut [u8]) -> usize
+        ensures { PutsRefusal self out.old out.new result }
+    {
+        if out.len() < 3 {
+            return 0;
+        }
+        let number = u8::from(self);
+        out[0] = b'R';
+        if number < 10 {
+            out[1] = b'0' + number;
+            return 2;
+        }
+        out[1] = b'0' + number / 10;
+        out[2] = b'0' + number % 10;
+        3
     }
 }
