@@ -10,37 +10,26 @@ use refusal::Refusal;
 // The places of a record of any kind: as many as table 19 has rows.
 pub const PLACES: usize = 166;
 
+// The kinds of frame, each with its number in house text.
 #[derive(Clone, Copy, Debug, PartialEq, Eq)]
 pub enum Kind {
-    Define,
-    DefineAck,
-    Cancel,
-    CancelAck,
-    Assign,
-    AssigningAck,
-    Deassign,
-    DeassigningAck,
-    Delete,
-    DeleteAck,
+    Define = 0x01,
+    DefineAck = 0x02,
+    Cancel = 0x03,
+    CancelAck = 0x04,
+    Assign = 0x05,
+    AssigningAck = 0x06,
+    Deassign = 0x07,
+    DeassigningAck = 0x08,
+    Delete = 0x0C,
+    DeleteAck = 0x0D,
 }
 
-// A kind's number in house text.
 impl From<Kind> for u8 {
     ghost from_gives = { λ kind result. result ≡ kind_number kind };
 
     fn from(kind: Kind) -> u8 {
-        match kind {
-            Kind::Define => 0x01,
-            Kind::DefineAck => 0x02,
-            Kind::Cancel => 0x03,
-            Kind::CancelAck => 0x04,
-            Kind::Assign => 0x05,
-            Kind::AssigningAck => 0x06,
-            Kind::Deassign => 0x07,
-            Kind::DeassigningAck => 0x08,
-            Kind::Delete => 0x0C,
-            Kind::DeleteAck => 0x0D,
-        }
+        kind as u8
     }
 }
 

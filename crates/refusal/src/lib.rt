@@ -1,6 +1,6 @@
 #![tactic(auto)]
 
-// The refusals, one named case for each number that a caller or a printed reply may show.
+// The refusals, each with the number that a caller or a printed reply may show.
 ghost use Rattle.std.specs.Prelude.{◌≡◌};
 ghost use Rattle.refusal.specs.Number.{number_of};
 ghost use Rattle.refusal.specs.Reply.{PutsRefusal};
@@ -10,77 +10,54 @@ use std::fmt;
 #[derive(Clone, Copy, Debug, PartialEq, Eq)]
 pub enum Refusal {
     // The bits end inside an element, or the bit count exceeds the lent bits.
-    EndsInside,
+    EndsInside = 1,
     // Bits remain after the frame's end.
-    BitsRemain,
+    BitsRemain = 2,
     // SS-Type or action type is not the asked kind's.
-    WrongKind,
+    WrongKind = 3,
     // A reserved code, or a value to be written that has no code.
-    Reserved,
+    Reserved = 4,
     // DEFINE, group not given and not call related.
-    NoGroup,
+    NoGroup = 5,
     // O-bit 1 and no element after it.
-    NothingFollows,
+    NothingFollows = 6,
     // M-bit 1: a type 3 element would begin.
-    TypeThree,
+    TypeThree = 7,
     // Writer: the start byte lies past the end, or too few bytes follow it.
-    NoSpace,
+    NoSpace = 8,
     // A bad line in the house text.
-    BadLine,
+    BadLine = 9,
     // Ledger: a value of the order is out of its range.
-    BadOrder,
+    BadOrder = 10,
     // Ledger: the order's form is not taken.
-    FormNotTaken,
+    FormNotTaken = 11,
     // Ledger: a group that is not there.
-    NoSuchGroup,
+    NoSuchGroup = 12,
     // Ledger: the asker does not own a named group.
-    NotOwner,
+    NotOwner = 13,
     // Ledger: no open assignment, or deassignment, for this answer.
-    NotOpen,
+    NotOpen = 14,
     // Ledger: a delete that neither deletes nor deassigns.
-    NothingToDo,
+    NothingToDo = 15,
     // Ledger: too many groups or pairs after the order.
-    Full,
+    Full = 16,
     // Ledger: too little room for the orders or the list.
-    NoRoom,
+    NoRoom = 17,
     // Ledger: the lent ledger is not in its written form.
-    NotWritten,
+    NotWritten = 18,
     // Ledger: a range whose first is above its last, or whose ends differ in their extension.
-    BadRange,
+    BadRange = 19,
     // Ledger: a list of too many numbers.
-    TooManyNumbers,
+    TooManyNumbers = 20,
     // Ledger: a group with too many owners after the order.
-    TooManyOwners,
+    TooManyOwners = 21,
 }
 
-// The number of a refusal.
 impl From<Refusal> for u8 {
     ghost from_gives = { λ refusal result. result ≡ number_of refusal };
 
     fn from(refusal: Refusal) -> u8 {
-        match refusal {
-            Refusal::EndsInside => 1,
-            Refusal::BitsRemain => 2,
-            Refusal::WrongKind => 3,
-            Refusal::Reserved => 4,
-            Refusal::NoGroup => 5,
-            Refusal::NothingFollows => 6,
-            Refusal::TypeThree => 7,
-            Refusal::NoSpace => 8,
-            Refusal::BadLine => 9,
-            Refusal::BadOrder => 10,
-            Refusal::FormNotTaken => 11,
-            Refusal::NoSuchGroup => 12,
-            Refusal::NotOwner => 13,
-            Refusal::NotOpen => 14,
-            Refusal::NothingToDo => 15,
-            Refusal::Full => 16,
-            Refusal::NoRoom => 17,
-            Refusal::NotWritten => 18,
-            Refusal::BadRange => 19,
-            Refusal::TooManyNumbers => 20,
-            Refusal::TooManyOwners => 21,
-        }
+        refusal as u8
     }
 }
 
