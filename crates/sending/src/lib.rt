@@ -7,26 +7,26 @@ ghost use Rattle.rules.specs.Outgoing.{orders};
 ghost use Rattle.replies.specs.Sending.{order_row};
 ghost use Rattle.sending.specs.Pushed.{pushed};
 
-use order::keys::{group_of, radio_of};
-use order::{GroupKey, RadioKey};
+use order::{GroupKey, Gtsi, Itsi, RadioKey};
 use rows::ORDER_WORDS;
 
 // The kinds of an outgoing order.
-// Stays: order_row and push_orders promise a row of any kind word, so the kinds are words, and no enum.
 pub const ASSIGN: u64 = 0;
 
 pub const DEASSIGN: u64 = 1;
 
 // An outgoing order as a row of the room.
+// Stays: it promises the row of any kind word, so a kind is a word, and no enum.
 pub fn order_row(kind: u64, radio: RadioKey, group: GroupKey) -> [u64; ORDER_WORDS]
     ensures { result ≡ order_row (record { kind = kind; radio = radio.0; group = group.0 }) }
 {
-    let to = radio_of(radio);
-    let of = group_of(group);
+    let to = Itsi::from(radio);
+    let of = Gtsi::from(group);
     [kind, to.0 as u64, to.1 as u64, of.0 as u64, of.1 as u64]
 }
 
 // An order of this kind to each radio, from place `at` on.
+// Stays: the kind is any word, as in order_row.
 fn push_rows(out: &mut [[u64; ORDER_WORDS]], at: usize, kind: u64, group: GroupKey, radios: &[u64])
     requires { at + length radios.now ≤ length out.old }
     ensures { out.new ≡ paste out.old at (map order_row (orders kind group.0 radios.now))
@@ -38,6 +38,7 @@ fn push_rows(out: &mut [[u64; ORDER_WORDS]], at: usize, kind: u64, group: GroupK
 }
 
 // An order of this kind to each radio, from place `at` on; nothing where they do not fit.
+// Stays: the kind is any word, as in order_row.
 pub fn push_orders(
     out: &mut [[u64; ORDER_WORDS]],
     at: usize,

@@ -1,4 +1,4 @@
 -- Laws of turned pairs.
-pub mod Fronts
+pub mod Walk
 pub mod Says
 pub mod Unique

@@ -1,29 +1,33 @@
 -- What becomes of each pair in a tick and in a delete.
-use Rattle.std.specs.Prelude.{ℕ, Bool, true, cond, not, ◌&&◌, List}
+use Rattle.std.specs.Prelude.{ℕ, Bool, true, cond, ◌&&◌, List, Some, None}
+use Rattle.std.specs.Prelude as std
 use Rattle.std.proofs.Math.Option.{Option, none, some}
 use Rattle.rules.specs.Lists.{mem}
 use Rattle.rules.specs.Mark.{Mark, leaving, fresh, ticked}
 use Rattle.rules.specs.Ledger.{Pair}
+use Rattle.store.specs.Storage.{pair_row}
 use Rattle.turning.specs.declared.Turn.{Turn}
 use Rattle.turning.specs.declared.Turn.TheVariants.{Tick, Remove, Leave}
 
+-- whether a radio is listed, or none are
+abbrev pub listed : std.Option (List ℕ) → ℕ → Bool
+listed None r = true
+listed (Some radios) r = mem r radios
+
 -- whether an order names the pair: its group and, where radios are listed, its radio
-abbrev pub named : List ℕ → Bool → List ℕ → Pair → Bool
-named groups listed radios k = mem k.0 groups && cond listed (mem k.1 radios) true
+abbrev pub named : List ℕ → std.Option (List ℕ) → Pair → Bool
+named groups radios k = mem k.0 groups && listed radios k.1
 
--- whether the pair stays, by whether it is named
-abbrev pub stays_of : Turn → Bool → Bool
-stays_of Tick names = true
-stays_of Remove names = not names
-stays_of Leave names = true
+-- the pair's mark then, where it stays, by whether it is named
+abbrev pub turned : Turn → Bool → Mark → Option Mark
+turned Tick names m = some (ticked m)
+turned Remove names m = cond names none (some m)
+turned Leave names m = some (cond names (fresh leaving) m)
 
--- its mark then
-abbrev pub mark_of : Turn → Bool → Mark → Mark
-mark_of Tick names m = ticked m
-mark_of Remove names m = m
-mark_of Leave names m = cond names (fresh leaving) m
+abbrev pub turn_of : Turn → List ℕ → std.Option (List ℕ) → Pair → Mark → Option Mark
+turn_of t groups radios k m = turned t (named groups radios k) m
 
-abbrev pub turn_of : Turn → List ℕ → Bool → List ℕ → Pair → Mark → Option Mark
-turn_of t groups listed radios k m =
-    let names = named groups listed radios k in
-    cond (stays_of t names) (some (mark_of t names m)) none
+-- and its row
+abbrev pub row_of : Pair → Option Mark → std.Option (List ℕ)
+row_of k none = None
+row_of k (some m) = Some (pair_row (k, m))

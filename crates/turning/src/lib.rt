@@ -1,25 +1,23 @@
 #![tactic(auto)]
 
 // Turning the pairs: each is changed in its place or taken out, and those that stay close up.
-ghost use Rattle.std.specs.Prelude.{◌≤◌, length, ◌≡◌};
+ghost use Rattle.std.specs.Prelude.{◌≤◌, length, option_map, ◌≡◌};
 ghost use Rattle.rules.specs.Entries.{alter};
 ghost use Rattle.rules.specs.Mark.{expired, ticked};
-ghost use Rattle.order.specs.Keys.{group_keys, radio_keys};
+ghost use Rattle.order.specs.Keys.{keys_held};
 ghost use Rattle.store.specs.Lists.{Fills};
 ghost use Rattle.store.specs.Storage.{pair_of, pair_row, pairs_of};
-ghost use Rattle.turning.specs.Turns.{named, stays_of, mark_of, turn_of};
-ghost use Rattle.turning.specs.declared.Turn.TheVariants.{Leave};
+ghost use Rattle.turning.specs.Turns.{named, turned, row_of, turn_of};
 
-use order::keys::{group_count, radio_count};
-use order::lists::member;
 use order::{Groups, Radios};
 use rows::{
     LEAVING, LEAVING_UNHEARD, PAIR_GROUP, PAIR_RADIO, PAIR_STATE, PAIR_TICKS, PAIR_WORDS, T1,
-    UNHEARD, lesser,
+    UNHEARD,
 };
 use store::form::timed;
 
 // What becomes of the pairs: a tick, or those that an order names are taken away, or are leaving.
+// Stays: turn-pairs-unique wants a determined turn, and what a closure promises does not determine its answer.
 #[derive(Clone, Copy)]
 pub enum Turn {
     Tick,
@@ -55,108 +53,49 @@ fn ticked_row(row: [u64; PAIR_WORDS]) -> [u64; PAIR_WORDS]
 }
 
 // Whether an order names this pair: its group and, where radios are listed, its radio.
-fn names(groups: &[u64], listed: bool, radios: &[u64], row: [u64; PAIR_WORDS]) -> bool
-    ensures { result ≡ named groups.now listed radios.now (pair_of row).0 }
+fn names(groups: &Groups, radios: Option<&Radios>, row: [u64; PAIR_WORDS]) -> bool
+    ensures { result ≡ named (keys_held groups.now) (option_map (λ r. keys_held r.now) radios.entry) (pair_of row).0 }
 {
-    if !member(groups, row[PAIR_GROUP]) {
+    if !groups.as_slice().contains(&row[PAIR_GROUP]) {
         return false;
     }
-    if listed {
-        return member(radios, row[PAIR_RADIO]);
+    match radios {
+        Some(radios) => radios.as_slice().contains(&row[PAIR_RADIO]),
+        None => true,
     }
-    true
 }
 
-fn stays(turn: Turn, groups: &[u64], listed: bool, radios: &[u64], row: [u64; PAIR_WORDS]) -> bool
-    ensures { result ≡ stays_of turn (named groups.now listed radios.now (pair_of row).0) }
+// The row of a pair after a turn, where it stays; a pair that the order names and that does not go is leaving, from 0 ticks on.
+fn turned(turn: Turn, named: bool, row: [u64; PAIR_WORDS]) -> Option<[u64; PAIR_WORDS]>
+    ensures { result ≡ row_of (pair_of row).0 (turned turn named (pair_of row).1) }
 {
     match turn {
-        Turn::Tick => true,
-        Turn::Remove => !names(groups, listed, radios, row),
-        Turn::Leave => true,
+        Turn::Tick => Some(ticked_row(row)),
+        Turn::Remove if named => None,
+        Turn::Leave if named => Some([row[PAIR_GROUP], row[PAIR_RADIO], LEAVING, 0]),
+        Turn::Remove | Turn::Leave => Some(row),
     }
-}
-
-// A pair that the order names is leaving, from 0 ticks on.
-fn leaving_row(
-    groups: &[u64],
-    listed: bool,
-    radios: &[u64],
-    row: [u64; PAIR_WORDS],
-) -> [u64; PAIR_WORDS]
-    ensures { result ≡ pair_row ((pair_of row).0, mark_of Leave (named groups.now listed radios.now (pair_of row).0) (pair_of row).1) }
-{
-    if names(groups, listed, radios, row) {
-        return [row[PAIR_GROUP], row[PAIR_RADIO], LEAVING, 0];
-    }
-    row
-}
-
-fn turned(
-    turn: Turn,
-    groups: &[u64],
-    listed: bool,
-    radios: &[u64],
-    row: [u64; PAIR_WORDS],
-) -> [u64; PAIR_WORDS]
-    ensures { result ≡ pair_row ((pair_of row).0, mark_of turn (named groups.now listed radios.now (pair_of row).0) (pair_of row).1) }
-{
-    match turn {
-        Turn::Tick => ticked_row(row),
-        Turn::Remove => row,
-        Turn::Leave => leaving_row(groups, listed, radios, row),
-    }
-}
-
-// The first `count` pairs, turned.
-fn turn_rows(
-    pairs: &mut [[u64; PAIR_WORDS]],
-    count: usize,
-    turn: Turn,
-    groups: &[u64],
-    listed: bool,
-    radios: &[u64],
-) -> usize
-    requires { count ≤ length pairs.old }
-    ensures { Fills pair_row (alter (turn_of turn groups.now listed radios.now) (pairs_of count pairs.old))
-        pairs.old pairs.new result }
-{
-    let mut kept: usize = 0;
-    let mut i: usize = 0;
-    while i < count {
-        let row = pairs[i];
-        i += 1;
-        if stays(turn, groups, listed, radios, row) {
-            pairs[kept] = turned(turn, groups, listed, radios, row);
-            kept += 1;
-        }
-    }
-    kept
 }
 
 // Each pair is changed in its place or taken out; those that stay close up in their order, and their count is returned.
+// Stays: a slice and a count, as what stands behind the pairs in use is lent too, and stays as it was.
 pub fn turn_pairs(
     pairs: &mut [[u64; PAIR_WORDS]],
     count: usize,
     turn: Turn,
-    groups: Groups,
-    listed: bool,
-    radios: Radios,
+    groups: &Groups,
+    radios: Option<&Radios>,
 ) -> usize
-    ensures { Fills pair_row (alter (turn_of turn (group_keys groups) listed (radio_keys radios)) (pairs_of count pairs.old))
+    ensures { Fills pair_row (alter (turn_of turn (keys_held groups.now) (option_map (λ r. keys_held r.now) radios.entry)) (pairs_of count pairs.old))
         pairs.old pairs.new result }
 {
-    let end = lesser(count, pairs.len());
-    let group_key = groups.key;
-    let group_end = group_count(groups);
-    let radio_key = radios.key;
-    let radio_end = radio_count(radios);
-    turn_rows(
-        pairs,
-        end,
-        turn,
-        &group_key[..group_end],
-        listed,
-        &radio_key[..radio_end],
-    )
+    let mut kept: usize = 0;
+    for i in 0..count.min(pairs.len()) {
+        let row = pairs[i];
+        if let Some(next) = turned(turn, names(groups, radios, row), row) {
+            pairs[kept] = next;
+            kept += 1;
+        }
+    }
+    kept
 }

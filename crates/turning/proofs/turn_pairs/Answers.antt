@@ -1,0 +1,33 @@
+-- `turning::turn_pairs` meets its contract: those of the first i that stay stand at the front, changed; the rest is as it was.
+use mathlib.Core.Path.{refl, sym, ap, ◌∙◌}
+use mathlib.Core.Bool.{Bool}
+use mathlib.Core.List.{[]}
+use native.Mathlib.Omega.{arith}
+use lib.ListN.{get_or}
+use Rattle.std.specs.Prelude.{option_map}
+use Rattle.order.specs.Keys.{keys_held}
+use Rattle.store.specs.Storage.{pair_of}
+use Rattle.turning.specs.Turns.{turned, row_of, turn_of}
+use Rattle.turning.proofs.Walk.{pair-stays, pair-goes}
+use Rattle.turning.proofs.turn_pairs.Goals as goal
+use Rattle.turning.proofs.turn_pairs.Goals.{in-Some, in_default}
+
+pub loop-i-preserved : goal.loop-i-preserved
+loop-i-preserved c =
+    let a = c.args in
+    let l = c.loop-i in
+    let f = turn_of a.turn (keys_held a.groups.now) (option_map (λ r. keys_held r.now) a.radios) in
+    let e = pair_of (get_or l.pairs l.i []) in
+    let told = c.turned.ensures ∙ ap (λ (b : Bool). row_of e.0 (turned a.turn b e.1)) c.names.ensures in
+    elim c.match-turned.branch [
+      | in-Some w ↦ rw (w.kept-is, w.pairs-is) (
+        omega arith,
+        pair-stays f a.pairs.now l.pairs l.i l.kept (omega (arith, c.min-i-end.ensures)) l.invariant.0 l.invariant.1 _ refl
+            w.in-Some.next (sym told ∙ w.in-Some.is),
+      )
+      | in_default w ↦ rw (w.kept-is, w.pairs-is) (
+        omega arith,
+        pair-goes f a.pairs.now l.pairs l.i l.kept (omega (arith, c.min-i-end.ensures)) l.invariant.0 l.invariant.1 _ refl
+            (sym told ∙ w.in_default.is),
+      )
+    ]
