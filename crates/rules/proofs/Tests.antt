@@ -1,8 +1,7 @@
--- Tests: by cases on a Bool, what `&&`, `||` and `not` say, and what std's `any` and `all` answer.
+-- Tests: by cases on a Bool, what `&&`, `||` and `not` say, and tests over what is made of each element.
 use mathlib.Core.Path.{◌≡◌, refl, sym, ap}
 use mathlib.Core.Bool.{Bool, true, false, not, ◌&&◌, ◌||◌}
 use mathlib.Core.List.{List, [], ◌∷◌, map}
-use Rattle.std.specs.List.{list_any, list_all}
 use Rattle.rules.specs.Lists.{any, all}
 
 pub split {ℓ} : {P : Type ℓ} (t : Bool) → (t ≡ true → P) → (t ≡ false → P) → P
@@ -65,21 +64,12 @@ or_r false b e = e
 pub not_in : (a : Bool) → a ≡ false → not a ≡ true
 not_in a p = cc
 
--- what std's `any` and `all` answer, over a list and over what is made of each element
-module _ {A : Type 0} (p : A → Bool) where
-  pub any-same : (l : List A) → list_any p l ≡ any p l
-  any-same [] = refl
-  any-same (x ∷ l) = ap (λ b. p x || b) (any-same l)
-
-  pub all-same : (l : List A) → list_all p l ≡ all p l
-  all-same [] = refl
-  all-same (x ∷ l) = ap (λ b. p x && b) (all-same l)
-
+-- tests over what is made of each element
 module _ {A B : Type 0} (p : B → Bool) (f : A → B) where
-  pub any-map : (l : List A) → list_any (λ x. p (f x)) l ≡ any p (map f l)
+  pub any-map : (l : List A) → any (λ x. p (f x)) l ≡ any p (map f l)
   any-map [] = refl
   any-map (x ∷ l) = ap (λ b. p (f x) || b) (any-map l)
 
-  pub all-map : (l : List A) → list_all (λ x. p (f x)) l ≡ all p (map f l)
+  pub all-map : (l : List A) → all (λ x. p (f x)) l ≡ all p (map f l)
   all-map [] = refl
   all-map (x ∷ l) = ap (λ b. p (f x) && b) (all-map l)

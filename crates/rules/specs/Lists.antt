@@ -1,23 +1,11 @@
 -- Lists: what passes a test, each number once, rising lists.
-use Rattle.std.specs.Prelude.{ℕ, ◌+◌, ◌<◌, Bool, true, false, cond, not, ◌&&◌, ◌||◌, List, [], ◌∷◌, ◌++◌, eqb, ltb}
+use Rattle.std.specs.Prelude.{ℕ, ◌+◌, ◌<◌, Bool, true, false, cond, not, ◌&&◌, List, [], ◌∷◌, ◌++◌, eqb, ltb}
 use Rattle.std.proofs.Math.Option.{Option, none, some}
 
+-- the test passes somewhere, and everywhere; what passes it, in its order
+pub use Rattle.std.specs.List.{list_any as any, list_all as all, filter as keep}
+
 module _ {A : Type 0} where
-  -- the test passes somewhere
-  abbrev pub any : (A → Bool) → List A → Bool
-  any p [] = false
-  any p (x ∷ l) = p x || any p l
-
-  -- the test passes everywhere
-  abbrev pub all : (A → Bool) → List A → Bool
-  all p [] = true
-  all p (x ∷ l) = p x && all p l
-
-  -- what passes the test, in its order
-  abbrev pub keep : (A → Bool) → List A → List A
-  keep p [] = []
-  keep p (x ∷ l) = cond (p x) (x ∷ keep p l) (keep p l)
-
   abbrev pub present : Option A → Bool
   present none = false
   present (some a) = true
