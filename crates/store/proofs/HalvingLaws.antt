@@ -92,6 +92,17 @@ module _ {A : Type 0} where
   element-past (x ∷ l) zero h = absurd (omega arith)
   element-past (x ∷ l) (suc i) h = element-past l i (omega arith)
 
+-- ---- of rows, by one that was read ----
+
+module _ {A B : Type 0} (item_of : A → B) (rows : List A) where
+  pub row_at : (i : ℕ) (x : A) → i < length rows → x ≡ get_or rows i x → element_at i (map item_of rows) ≡ some (item_of x)
+  row_at i x h r =
+      element-at (map item_of rows) i (item_of x) (rw (length-map rows item_of) h)
+      ∙ ap some (get_or-map item_of rows i x ∙ ap item_of (sym r))
+
+  pub row-past : (i : ℕ) → length rows ≤ i → element_at i (map item_of rows) ≡ none
+  row-past i h = element-past (map item_of rows) i (rw (length-map rows item_of) h)
+
 -- ---- of as many rows as there are, n or fewer ----
 
 module _ {A : Type 0} (item_of : List ℕ → A) (rows : List (List ℕ)) (n : ℕ) where
@@ -101,46 +112,35 @@ module _ {A : Type 0} (item_of : List ℕ → A) (rows : List (List ℕ)) (n : �
   pub item-at : (i : ℕ) → i < n → get_or (map item_of (take n rows)) i (item_of []) ≡ item_of (get_or rows i [])
   item-at i h = get_or-map item_of (take n rows) i [] ∙ ap item_of (get_or-take n rows i [] h)
 
-  pub row_at : (i : ℕ) → i < n → i < length rows → element_at i (map item_of (take n rows)) ≡ some (item_of (get_or rows i []))
-  row_at i h k =
-      let p : i < length (map item_of (take n rows)) = omega (arith, items-length) in
-      element-at (map item_of (take n rows)) i (item_of []) p ∙ ap some (item-at i h)
+-- ---- a search among rows ----
 
-  pub row-past : (i : ℕ) → min n (length rows) ≤ i → element_at i (map item_of (take n rows)) ≡ none
-  row-past i h = element-past (map item_of (take n rows)) i (omega (arith, items-length))
-
-module _ {K X : Type 0} (below : K → K → Bool) (item_of : List ℕ → K × X) (rows : List (List ℕ)) (n : ℕ) (k : K) where
+module _ {A K X : Type 0} (below : K → K → Bool) (item_of : A → K × X) (rows : List A) (k : K) where
   -- the place of the key is sought among `left` rows from `from` on
   pub record Sought (from left : ℕ) : Type 0 where
     pub inside : from + left ≤ length rows
-    pub few : from + left ≤ n
-    pub place : halving (λ i. before below k (element_at i (map item_of (take n rows)))) left from left ≡ place_in below (map item_of (take n rows)) k
+    pub place : halving (λ i. before below k (element_at i (map item_of rows))) left from left ≡ place_in below (map item_of rows) k
 
-  pub sought-first : (left : ℕ) → left ≡ min n (length rows) → Sought 0 left
-  sought-first left e =
-      let q : left ≡ length (map item_of (take n rows)) = e ∙ sym (items-length item_of rows n) in
-      record { inside = omega arith; few = omega arith; place = rw q }
+  pub sought-first : Sought 0 (length rows)
+  sought-first = record { inside = omega arith; place = rw (length-map rows item_of) }
 
-  module _ (from left : ℕ) (h : 0 < left) (s : Sought from left) where
-    passes-as : (b : Bool) → below (item_of (get_or rows (from + left / 2) [])).0 k ≡ b
-        → before below k (element_at (from + left / 2) (map item_of (take n rows))) ≡ b
-    passes-as b p = rw (row_at item_of rows n (from + left / 2) (omega (arith, s.few)) (omega (arith, s.inside))) p
+  -- a row is read in the middle, and the search goes on behind it or before it
+  module _ (from left : ℕ) (h : 0 < left) (s : Sought from left) (x : A) (r : x ≡ get_or rows (from + left / 2) x) where
+    passes-as : (b : Bool) → below (item_of x).0 k ≡ b → before below k (element_at (from + left / 2) (map item_of rows)) ≡ b
+    passes-as b p = rw (row_at item_of rows (from + left / 2) x (omega (arith, s.inside)) r) p
 
-    pub sought-behind : below (item_of (get_or rows (from + left / 2) [])).0 k ≡ true → Sought (from + (left / 2 + 1)) (left - (left / 2 + 1))
+    pub sought-behind : below (item_of x).0 k ≡ true → Sought (from + (left / 2 + 1)) (left - (left / 2 + 1))
     sought-behind p = record {
       inside = omega (arith, s.inside);
-      few = omega (arith, s.few);
-      place = sym (halving-behind (λ i. before below k (element_at i (map item_of (take n rows)))) from left h (passes-as true p)) ∙ s.place;
+      place = sym (halving-behind (λ i. before below k (element_at i (map item_of rows))) from left h (passes-as true p)) ∙ s.place;
     }
 
-    pub sought-before : below (item_of (get_or rows (from + left / 2) [])).0 k ≡ false → Sought from (left / 2)
+    pub sought-before : below (item_of x).0 k ≡ false → Sought from (left / 2)
     sought-before p = record {
       inside = omega (arith, s.inside);
-      few = omega (arith, s.few);
-      place = sym (halving-before (λ i. before below k (element_at i (map item_of (take n rows)))) from left h (passes-as false p)) ∙ s.place;
+      place = sym (halving-before (λ i. before below k (element_at i (map item_of rows))) from left h (passes-as false p)) ∙ s.place;
     }
 
-  pub sought-last : (from left : ℕ) → left ≤ 0 → Sought from left → from ≡ place_in below (map item_of (take n rows)) k
+  pub sought-last : (from left : ℕ) → left ≤ 0 → Sought from left → from ≡ place_in below (map item_of rows) k
   sought-last from left h s =
       let e : left ≡ 0 = omega arith in
-      sym (halving-none (λ i. before below k (element_at i (map item_of (take n rows)))) 0 from) ∙ rw e at s.place
+      sym (halving-none (λ i. before below k (element_at i (map item_of rows))) 0 from) ∙ rw e at s.place

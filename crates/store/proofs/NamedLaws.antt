@@ -1,5 +1,5 @@
 -- What is said of whose a group is, and what may be wrong with it, agree.
-use mathlib.Core.Path.{◌≡◌, refl, ap, ◌∙◌}
+use mathlib.Core.Path.{◌≡◌, refl}
 use mathlib.Core.Bool.{Bool, true, false, cond, not}
 use mathlib.Core.Option.{Option, none, some}
 use Prim.Native.Nat.{ℕ}
@@ -8,11 +8,10 @@ use Rattle.rules.specs.Ledger.{Group}
 use Rattle.store.specs.Named.{group_fault, owned_as, fails_as}
 use Rattle.store.specs.declared.Standing.{Standing}
 use Rattle.store.specs.declared.Standing.TheVariants.{Missing, Foreign, Taken}
-use Rattle.store.specs.declared.Owned.{Owned}
 use Rattle.store.specs.declared.Owned.TheVariants.{Own, Other}
 
 -- what is wrong with a group goes by whose it is
-fails-fault : (s : Standing) (x : Option Group) (asker : ℕ) → fails_as s (owned_as x asker) ≡ group_fault s x asker
+pub fails-fault : (s : Standing) (x : Option Group) (asker : ℕ) → fails_as s (owned_as x asker) ≡ group_fault s x asker
 fails-fault Missing none asker = refl
 fails-fault Foreign none asker = refl
 fails-fault Taken none asker = refl
@@ -31,8 +30,3 @@ fails-fault Taken (some x) asker = go (mem asker x.owners)
     go : (b : Bool) → fails_as Taken (cond b Own Other) ≡ not b
     go true = refl
     go false = refl
-
--- what is answered of a named group, looked up by f
-pub named-fault : (s : Standing) (f : ℕ → Option Group) (asker g named : ℕ) (o : Owned) (b : Bool) → g ≡ named → o ≡ owned_as (f g) asker
-    → b ≡ fails_as s o → b ≡ group_fault s (f named) asker
-named-fault s f asker g named o b p q r = r ∙ ap (fails_as s) (q ∙ ap (λ (g : ℕ). owned_as (f g) asker) p) ∙ fails-fault s (f named) asker

@@ -10,6 +10,11 @@ use denote.Triple.Entry.{Args, Res}
 use types.Logic.{Logic}
 use prog.Memory.{Memory}
 use prog.Routine.{Routine}
+use denote.Param.Laws.{Laws, IsCopy}
+use denote.RattleType.{RattleType}
+use mir.Syntax.{Dict}
+use Rattle.std.specs.declared.clone.Clone as Clone
+use Rattle.store.specs.declared.places.Row as Row
 use Rattle.order.proofs.Unique.{Unique}
 use Rattle.store.specs.contracts.form.Lent.roomy as roomy
 use Rattle.store.specs.contracts.form.Lent.group_rows as group-rows
@@ -17,10 +22,16 @@ use Rattle.store.specs.contracts.form.Lent.pair_rows as pair-rows
 use Rattle.store.specs.contracts.form.Lent.written as written
 use Rattle.store.proofs.places.stands.Kinds as stands-kinds
 use Rattle.store.proofs.places.stands.Reads as stands
-use Rattle.store.proofs.places.pair_place.Kinds as pair-place-kinds
-use Rattle.store.proofs.places.pair_place.Reads as pair_place
-use Rattle.store.proofs.places.group_place.Kinds as group-place-kinds
-use Rattle.store.proofs.places.group_place.Reads as group-place
+use Rattle.store.proofs.places.place.Kinds as place-kinds
+use Rattle.store.proofs.places.place.Reads as place
+use Rattle.store.proofs.places.ArrayU64GROUPWORDSRow.is_before.Kinds as group-before-kinds
+use Rattle.store.proofs.places.ArrayU64GROUPWORDSRow.is_before.Reads as group_before
+use Rattle.store.proofs.places.ArrayU64GROUPWORDSRow.is_of.Kinds as group-of-kinds
+use Rattle.store.proofs.places.ArrayU64GROUPWORDSRow.is_of.Reads as group_of
+use Rattle.store.proofs.places.ArrayU64PAIRWORDSRow.is_before.Kinds as pair-before-kinds
+use Rattle.store.proofs.places.ArrayU64PAIRWORDSRow.is_before.Reads as pair_before
+use Rattle.store.proofs.places.ArrayU64PAIRWORDSRow.is_of.Kinds as pair-of-kinds
+use Rattle.store.proofs.places.ArrayU64PAIRWORDSRow.is_of.Reads as pair_of
 use Rattle.store.proofs.places.stretch_of.Kinds as stretch-of-kinds
 use Rattle.store.proofs.places.stretch_of.Reads as stretch-of
 use Rattle.store.proofs.places.state_in.Kinds as state-in-kinds
@@ -39,11 +50,24 @@ use Rattle.store.proofs.form.timed.Reads as timed
 pub stands-unique : Unique stands-kinds.ps stands-kinds.r stands.Post
 stands-unique κs a r r' s s' p q = p ∙ sym q
 
-pub pair-place-unique : Unique pair-place-kinds.ps pair-place-kinds.r pair_place.Post
-pair-place-unique κs a r r' s s' p q = p ∙ sym q
+-- of rows of any kind: of groups' rows and of pairs'
+module _ (R : RattleType) (K : RattleType) (laws : Laws R) (key-laws : Laws K) (key-copy : IsCopy K)
+    (row : Row.Ghosts R.Denot K.Denot) (row-dict : Dict) (clone : Clone.Ghosts K.Denot) (clone-dict : Dict) where
+  pub place-unique : Unique (place-kinds.ps R K laws key-laws key-copy) (place-kinds.r R K laws key-laws key-copy)
+      (place.Post R K laws key-laws key-copy row row-dict clone clone-dict)
+  place-unique κs a r r' s s' p q = p ∙ sym q
 
-pub group-place-unique : Unique group-place-kinds.ps group-place-kinds.r group-place.Post
-group-place-unique κs a r r' s s' p q = p ∙ sym q
+pub group-before-unique : Unique group-before-kinds.ps group-before-kinds.r group_before.Post
+group-before-unique κs a r r' s s' p q = p ∙ sym q
+
+pub group-of-unique : Unique group-of-kinds.ps group-of-kinds.r group_of.Post
+group-of-unique κs a r r' s s' p q = p ∙ sym q
+
+pub pair-before-unique : Unique pair-before-kinds.ps pair-before-kinds.r pair_before.Post
+pair-before-unique κs a r r' s s' p q = p ∙ sym q
+
+pub pair-of-unique : Unique pair-of-kinds.ps pair-of-kinds.r pair_of.Post
+pair-of-unique κs a r r' s s' p q = p ∙ sym q
 
 pub stretch-of-unique : Unique stretch-of-kinds.ps stretch-of-kinds.r stretch-of.Post
 stretch-of-unique κs a r r' s s' p q = p ∙ sym q

@@ -1,30 +1,95 @@
 // The places of groups and pairs, found by halving, and what is looked up there.
-ghost use Rattle.std.specs.Prelude.{eqb, ltb, ◌≡◌};
+ghost use Rattle.std.specs.Prelude.{ℕ, eqb, ltb, map, Bool, ◌≡◌};
 ghost use Rattle.rules.specs.ByNumber.{below_pair};
-ghost use Rattle.rules.specs.Ledger.{same_pair};
+ghost use Rattle.rules.specs.Ledger.{Group, Pair, same_pair};
+ghost use Rattle.rules.specs.Mark.{Mark};
 ghost use Rattle.store.specs.Halving.{place_in};
 ghost use Rattle.store.specs.Places.{place_of, stands_at, found_of, mark_in, stretch_of, looked_up};
-ghost use Rattle.store.specs.Storage.{pair_of, pairs_of, groups_of};
+ghost use Rattle.store.specs.Storage.{pair_of, group_of};
 
 use crate::Stretch;
 use order::{GroupKey, RadioKey};
-use rows::{GROUP_WORDS, KEY_WORD, PAIR_GROUP, PAIR_RADIO, PAIR_STATE, PAIR_WORDS, lesser};
+use rows::{GROUP_WORDS, KEY_WORD, PAIR_GROUP, PAIR_RADIO, PAIR_STATE, PAIR_WORDS};
 
 // A radio's key above all that stand.
 const PAST_RADIOS: u64 = u64::MAX;
 
-// Whether a row is this pair's.
-fn is_pair(row: [u64; PAIR_WORDS], group: GroupKey, radio: RadioKey) -> bool
-    ensures { result ≡ same_pair (group.0, radio.0) (pair_of row).0 }
-{
-    (group.0 == row[PAIR_GROUP]) & (radio.0 == row[PAIR_RADIO])
+// A row of the ledger, looked for by its key: what it says, a number and what stands under it, and which numbers come before a key.
+pub trait Row {
+    type Key: Copy;
+
+    ghost Number: { Type 0 };
+
+    ghost Entry: { Type 0 };
+
+    ghost item_of: { Self → Number × Entry };
+
+    ghost number_of: { Self.Key → Number };
+
+    ghost below: { Number → Number → Bool };
+
+    ghost same: { Number → Number → Bool };
+
+    // Whether it comes before this key.
+    fn is_before(&self, key: Self::Key) -> bool
+        ensures { result ≡ below (item_of self.now).0 (number_of key) };
+
+    // Whether it is this key's.
+    fn is_of(&self, key: Self::Key) -> bool
+        ensures { result ≡ same (number_of key) (item_of self.now).0 };
 }
 
-// Whether a row's pair comes before this one: by group, then radio.
-fn is_before(row: [u64; PAIR_WORDS], group: GroupKey, radio: RadioKey) -> bool
-    ensures { result ≡ below_pair (pair_of row).0 (group.0, radio.0) }
-{
-    (row[PAIR_GROUP] < group.0) | ((row[PAIR_GROUP] == group.0) & (row[PAIR_RADIO] < radio.0))
+// A group's row, by the group.
+impl Row for [u64; GROUP_WORDS] {
+    type Key = GroupKey;
+
+    ghost Number = { ℕ };
+
+    ghost Entry = { Group };
+
+    ghost item_of = { group_of };
+
+    ghost number_of = { λ k. k.0 };
+
+    ghost below = { ltb };
+
+    ghost same = { eqb };
+
+    #[tactic(auto, unfolding(crate::specs::Storage::group_of))]
+    fn is_before(&self, group: GroupKey) -> bool {
+        self[KEY_WORD] < group.0
+    }
+
+    #[tactic(auto, unfolding(crate::specs::Storage::group_of))]
+    fn is_of(&self, group: GroupKey) -> bool {
+        group.0 == self[KEY_WORD]
+    }
+}
+
+// A pair's row, by group, then radio.
+impl Row for [u64; PAIR_WORDS] {
+    type Key = (GroupKey, RadioKey);
+
+    ghost Number = { Pair };
+
+    ghost Entry = { Mark };
+
+    ghost item_of = { pair_of };
+
+    ghost number_of = { λ k. (k.0.0, k.1.0) };
+
+    ghost below = { below_pair };
+
+    ghost same = { same_pair };
+
+    fn is_before(&self, (group, radio): (GroupKey, RadioKey)) -> bool {
+        (self[PAIR_GROUP] < group.0)
+            || (self[PAIR_GROUP] == group.0) && (self[PAIR_RADIO] < radio.0)
+    }
+
+    fn is_of(&self, (group, radio): (GroupKey, RadioKey)) -> bool {
+        (group.0 == self[PAIR_GROUP]) && (radio.0 == self[PAIR_RADIO])
+    }
 }
 
 // Whether it stands at its place.
@@ -34,15 +99,16 @@ pub fn stands(place: Result<usize, usize>) -> bool
     place.is_ok()
 }
 
-// How many pairs come before this one.
-fn pair_from(pairs: &[[u64; PAIR_WORDS]], count: usize, group: GroupKey, radio: RadioKey) -> usize
-    ensures { result ≡ place_in below_pair (pairs_of count pairs.now) (group.0, radio.0) }
+// How many rows come before this key.
+fn rows_before<R: Row>(rows: &[R], key: R::Key) -> usize
+    ensures { result ≡ place_in R.below (map R.item_of rows.now) (R.number_of key) }
 {
     let mut from: usize = 0;
-    let mut left = lesser(count, pairs.len());
+    let mut left = rows.len();
+    // Stays: the contract speaks of any rows, and partition_point promises nothing of those out of order.
     while 0 < left {
         let half = left / 2;
-        if is_before(pairs[from + half], group, radio) {
+        if rows[from + half].is_before(key) {
             from += half + 1;
             left -= half + 1;
         } else {
@@ -52,68 +118,24 @@ fn pair_from(pairs: &[[u64; PAIR_WORDS]], count: usize, group: GroupKey, radio: 
     from
 }
 
-// How many groups come before this one.
-fn group_from(groups: &[[u64; GROUP_WORDS]], count: usize, group: GroupKey) -> usize
-    ensures { result ≡ place_in ltb (groups_of count groups.now) group.0 }
+// The place of a key among rows: it stands there, or would come there.
+pub fn place<R: Row>(rows: &[R], key: R::Key) -> Result<usize, usize>
+    ensures { result ≡ place_of R.below R.same (map R.item_of rows.now) (R.number_of key) }
 {
-    let mut from: usize = 0;
-    let mut left = lesser(count, groups.len());
-    while 0 < left {
-        let half = left / 2;
-        if groups[from + half][KEY_WORD] < group.0 {
-            from += half + 1;
-            left -= half + 1;
-        } else {
-            left = half;
-        }
-    }
-    from
-}
-
-// The place of a pair: it stands there, or would come there.
-pub fn pair_place(
-    pairs: &[[u64; PAIR_WORDS]],
-    count: usize,
-    group: GroupKey,
-    radio: RadioKey,
-) -> Result<usize, usize>
-    ensures { result ≡ place_of below_pair same_pair (pairs_of count pairs.now) (group.0, radio.0) }
-{
-    let end = lesser(count, pairs.len());
-    let i = pair_from(pairs, count, group, radio);
-    if i < end {
-        if is_pair(pairs[i], group, radio) {
-            return Ok(i);
-        }
-    }
-    Err(i)
-}
-
-// The place of a group: it stands there, or would come there.
-pub fn group_place(
-    groups: &[[u64; GROUP_WORDS]],
-    count: usize,
-    group: GroupKey,
-) -> Result<usize, usize>
-    ensures { result ≡ place_of ltb eqb (groups_of count groups.now) group.0 }
-{
-    let end = lesser(count, groups.len());
-    let i = group_from(groups, count, group);
-    if i < end {
-        if group.0 == groups[i][KEY_WORD] {
-            return Ok(i);
-        }
-    }
-    Err(i)
+    let i = rows_before(rows, key);
+    let Some(row) = rows.get(i) else {
+        return Err(i);
+    };
+    if row.is_of(key) { Ok(i) } else { Err(i) }
 }
 
 // A group's stretch.
-pub fn stretch_of(pairs: &[[u64; PAIR_WORDS]], count: usize, group: GroupKey) -> Stretch
-    ensures { result ≡ stretch_of (pairs_of count pairs.now) group.0 }
+pub fn stretch_of(pairs: &[[u64; PAIR_WORDS]], group: GroupKey) -> Stretch
+    ensures { result ≡ stretch_of (map pair_of pairs.now) group.0 }
 {
     Stretch {
-        from: pair_from(pairs, count, group, RadioKey(0)),
-        to: pair_from(pairs, count, group, RadioKey(PAST_RADIOS)),
+        from: rows_before(pairs, (group, RadioKey(0))),
+        to: rows_before(pairs, (group, RadioKey(PAST_RADIOS))),
     }
 }
 
@@ -121,22 +143,17 @@ pub fn stretch_of(pairs: &[[u64; PAIR_WORDS]], count: usize, group: GroupKey) ->
 pub fn state_in(row: [u64; PAIR_WORDS], group: GroupKey, radio: RadioKey) -> Option<u64>
     ensures { result ≡ found_of (mark_in (pair_of row) (group.0, radio.0)) }
 {
-    if is_pair(row, group, radio) {
+    if row.is_of((group, radio)) {
         return Some(row[PAIR_STATE]);
     }
     None
 }
 
 // A pair's state, or plainly nothing.
-pub fn find(
-    pairs: &[[u64; PAIR_WORDS]],
-    count: usize,
-    group: GroupKey,
-    radio: RadioKey,
-) -> Option<u64>
-    ensures { result ≡ found_of (looked_up below_pair same_pair (pairs_of count pairs.now) (group.0, radio.0)) }
+pub fn find(pairs: &[[u64; PAIR_WORDS]], group: GroupKey, radio: RadioKey) -> Option<u64>
+    ensures { result ≡ found_of (looked_up below_pair same_pair (map pair_of pairs.now) (group.0, radio.0)) }
 {
-    let Ok(i) = pair_place(pairs, count, group, radio) else {
+    let Ok(i) = place(pairs, (group, radio)) else {
         return None;
     };
     state_in(pairs[i], group, radio)
