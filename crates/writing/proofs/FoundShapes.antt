@@ -17,11 +17,10 @@ use Rattle.table.specs.Fields.{row_for, number_field, choice_field}
 use Rattle.table.specs.Sound.{sound}
 use Rattle.table.proofs.FieldLaws.{number-row}
 use Rattle.table.proofs.ShapeLaws.{sound-number, sound-missing}
-use Rattle.writing.specs.declared.Pass.{Pass}
-use Rattle.writing.specs.declared.Pass.TheVariants.{Judge, Lay}
-use Rattle.writing.specs.declared.Passed.{Passed}
-use Rattle.writing.specs.declared.Passed.TheVariants as passed
-use Rattle.writing.specs.Lay.{Finds, Passes, Any, Writes}
+use Rattle.writing.specs.Pass.{Pass, Judge, Lay}
+use Rattle.writing.specs.declared.walks.Passed.{Passed}
+use Rattle.writing.specs.declared.walks.Passed.TheVariants as passed
+use Rattle.writing.specs.Lay.{Lent, Finds, Passes, Any, Writes}
 use Rattle.writing.specs.Found.{Looks, Puts, found_of, barred_of}
 use Rattle.writing.proofs.LayLaws.{finds}
 use Rattle.writing.proofs.LayShapes.{puts-found, puts-barred, bar-bad, bar-group}
@@ -32,10 +31,10 @@ abbrev m_bit : Field
 m_bit = record { width = 1; first = 0; codes = 1; refusal = TypeThree }
 
 -- what is promised of a shape
-abbrev Told : Pass → List ℕ → ℕ → ℕ → ℕ → List ℕ → List ℕ → Option Passed → Shape → Type 0
+abbrev Told : Pass → List ℕ → ℕ → ℕ → ℕ → Lent → Lent → Option Passed → Shape → Type 0
 Told pass s last at p out out' r x = Puts pass (Looks pass s last p x) (rows_of x [] p) s at p out out' r
 
-module _ (pass : Pass) (s : List ℕ) (last at p : ℕ) (x : Shape) {out out' : List ℕ} {r : Option Passed} (inside : p < places) where
+module _ (pass : Pass) (s : List ℕ) (last at p : ℕ) (x : Shape) {out out' : Lent} {r : Option Passed} (inside : p < places) where
   -- where the shape is told by a match
   when-told : (y : Shape) → x ≡ y → Told pass s last at p out out' r y → Told pass s last at p out out' r x
   when-told y e f = subst (Told pass s last at p out out' r) (sym e) f
@@ -78,7 +77,7 @@ module _ (pass : Pass) (s : List ℕ) (last at p : ℕ) (x : Shape) {out out' : 
   ending-found e g h = when-told Ending e (puts-found (field-writes g inside refl Any) refl (inl refl) inside (Looks pass s last p Ending) 0 r refl h)
 
 -- ---- the two refusals
-module _ (pass : Pass) (s : List ℕ) (last at p : ℕ) (x : Shape) {out : List ℕ} {r : Option Passed} (inside : p < places) (reason : Bool) where
+module _ (pass : Pass) (s : List ℕ) (last at p : ℕ) (x : Shape) {out : Lent} {r : Option Passed} (inside : p < places) (reason : Bool) where
   pub missing-found : (q : ℕ) → x ≡ Missing q → T (sound x p) → reason ≡ eqb (get_or s q 0) No → r ≡ barred_of pass reason (Some passed.NoGroup) at
       → Told pass s last at p out out r x
   unfolding rows_of present

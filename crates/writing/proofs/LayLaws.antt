@@ -7,14 +7,13 @@ use Rattle.bits.specs.Bits.{digits, bits_of}
 use Rattle.bits.specs.Field.{put_at}
 use Rattle.bits.proofs.Laws.{length_digits, length-bits_of, length-put_at, put-bits}
 use Rattle.refusal.specs.declared.Refusal.{Refusal}
-use Rattle.writing.specs.declared.Pass.{Pass}
-use Rattle.writing.specs.declared.Pass.TheVariants.{Judge, Lay}
+use Rattle.writing.specs.Pass.{Pass, Judge, Lay}
 use Rattle.layout.specs.Row.{Row, Condition, holds, all, nothing, bare, present, there}
 use Rattle.layout.specs.Write.{Laid, held, lay, good, good_but_group, vals, emit}
 use Rattle.layout.specs.Shape.{row}
 use Rattle.layout.proofs.Tests.{and-false, and-true, all_append, both_true}
 use Rattle.table.proofs.Walks.{Walk}
-use Rattle.writing.specs.Lay.{Over, Does, Finds, Lies, Ends, Lays}
+use Rattle.writing.specs.Lay.{Lent, Stays, Over, Does, Finds, Lies, Ends, Lays}
 use Rattle.table.specs.Fields.{row_for, Narrow}
 use Rattle.table.specs.declared.Field.{Field}
 
@@ -92,27 +91,29 @@ module _ (out out₁ out₂ : List ℕ) (at : ℕ) (a b : List Bool) (f : Over o
       }
 
 -- ---- what a walk does
-does-none : (pass : Pass) (out : List ℕ) (at : ℕ) → Does pass [] at out out
+does-none : (pass : Pass) (out : Lent) (at : ℕ) → Does pass [] at out out
 unfolding emit
 does-none Judge out at = tt
-does-none Lay out at = λ _. over_none out at
+does-none Lay out at = λ _. over_none out.bytes at
 
-does-join : (pass : Pass) (a b : List Laid) (at at₁ : ℕ) (out out₁ out₂ : List ℕ) → at₁ ≡ at + length (emit a) → Does pass a at out out₁
+does-join : (pass : Pass) (a b : List Laid) (at at₁ : ℕ) (out out₁ out₂ : Lent) → at₁ ≡ at + length (emit a) → Does pass a at out out₁
     → Does pass b at₁ out₁ out₂ → Does pass (a ++ b) at out out₂
 does-join Judge a b at at₁ out out₁ out₂ e f g = tt
 does-join Lay a b at at₁ out out₁ out₂ e f g = λ h.
     let two = both_true (all good a) (all good b) (sym (all_append good a b) ∙ h) in
-    subst (λ (l : List Bool). Over out out₂ at l) (sym (emit-append a b))
-    (over-join out out₁ out₂ at (emit a) (emit b) (f two.0) (subst (λ (x : ℕ). Over out₁ out₂ x (emit b)) e (g two.1)))
+    subst (λ (l : List Bool). Over out.bytes out₂.bytes at l) (sym (emit-append a b))
+    (over-join out.bytes out₁.bytes out₂.bytes at (emit a) (emit b) (f two.0) (subst (λ (x : ℕ). Over out₁.bytes out₂.bytes x (emit b)) e (g two.1)))
 
 finds-join : (pass : Pass) (a b : List Laid) → Finds pass (all good a ≡ true) → Finds pass (all good b ≡ true) → Finds pass (all good (a ++ b) ≡ true)
 finds-join Judge a b f g = all_append good a b ∙ ap₂ ◌&&◌ f g
 finds-join Lay a b f g = tt
 
--- bytes that are kept, and kept again
-pub keeps_on : (pass : Pass) (a b c : List ℕ) → Finds pass (b ≡ a) → Finds pass (c ≡ b) → Finds pass (c ≡ a)
-keeps_on Judge a b c f g = g ∙ f
-keeps_on Lay a b c f g = tt
+-- what is held, and held on
+pub stays_none : {out : Lent} → Stays out out
+stays_none = record { size = refl; same = refl }
+
+pub stays_on : {out out₁ out₂ : Lent} → Stays out out₁ → Stays out₁ out₂ → Stays out out₂
+stays_on f g = record { size = g.size ∙ f.size; same = g.same ∙ f.same }
 
 -- of a walk that judges; the other asks nothing
 pub finds : (pass : Pass) {A : Type 0} → A → Finds pass A
@@ -120,13 +121,13 @@ finds Judge a = a
 finds Lay a = tt
 
 -- ---- rows after rows
-pub lies-none : (pass : Pass) (at p : ℕ) (vs out : List ℕ) → Lies pass [] 0 at at p vs vs out out
+pub lies-none : (pass : Pass) (at p : ℕ) (vs : List ℕ) (out : Lent) → Lies pass [] 0 at at p vs vs out out
 unfolding vals emit
 lies-none pass at p vs out =
     let front : take (p + 0) vs ≡ take p vs ++ [] = ap (λ (n : ℕ). take n vs) (add-zero p) ∙ sym (append-nil (take p vs)) in
     record { on = sym (add-zero at); front = front; before = refl; stays = refl; does = does-none pass out at }
 
-module _ (pass : Pass) (a b : List Laid) (n m at at₁ at₂ p : ℕ) (vs vs₁ vs₂ out out₁ out₂ : List ℕ) where
+module _ (pass : Pass) (a b : List Laid) (n m at at₁ at₂ p : ℕ) (vs vs₁ vs₂ : List ℕ) (out out₁ out₂ : Lent) where
   pub lies-join : Lies pass a n at at₁ p vs vs₁ out out₁ → Lies pass b m at₁ at₂ (p + n) vs₁ vs₂ out₁ out₂ → Lies pass (a ++ b) (n + m) at at₂ p vs vs₂ out out₂
   lies-join f g =
       record {
@@ -142,12 +143,12 @@ module _ (pass : Pass) (a b : List Laid) (n m at at₁ at₂ p : ℕ) (vs vs₁ 
       }
 
 -- over no rows nothing happens
-pub lays-none : (pass : Pass) (s : List ℕ) (at p : ℕ) (vs out : List ℕ) → Lays pass [] s at p vs vs out out (Some at)
+pub lays-none : (pass : Pass) (s : List ℕ) (at p : ℕ) (vs : List ℕ) (out : Lent) → Lays pass [] s at p vs vs out out (Some at)
 unfolding lay
 lays-none pass s at p vs out = record { size = refl; ends = (lies-none pass at p vs out, finds pass refl) }
 
 -- the passing of rows after rows
-module _ (pass : Pass) (a b : List Row) (s : List ℕ) (at at₁ p : ℕ) (vs vs₁ vs₂ out out₁ out₂ : List ℕ)
+module _ (pass : Pass) (a b : List Row) (s : List ℕ) (at at₁ p : ℕ) (vs vs₁ vs₂ : List ℕ) (out out₁ out₂ : Lent)
     (f : Lays pass a s at p vs vs₁ out out₁ (Some at₁)) where
   parts : lay a (take p vs) (drop p s) ++ lay b (take (p + length a) vs₁) (drop (p + length a) s) ≡ lay (a ++ b) (take p vs) (drop p s)
   parts =
@@ -176,7 +177,7 @@ module _ (pass : Pass) (a b : List Row) (s : List ℕ) (at at₁ p : ℕ) (vs vs
       go None g = all_append good_but_group one two ∙ ap (λ (t : Bool). all good_but_group one && t) g ∙ and-false (all good_but_group one)
 
 -- what is bad in the first rows is bad in all
-pub lays-stop : (pass : Pass) (a b : List Row) (s : List ℕ) (at p : ℕ) (vs vs₁ out out₁ : List ℕ) → Lays pass a s at p vs vs₁ out out₁ None
+pub lays-stop : (pass : Pass) (a b : List Row) (s : List ℕ) (at p : ℕ) (vs vs₁ : List ℕ) (out out₁ : Lent) → Lays pass a s at p vs vs₁ out out₁ None
     → Lays pass (a ++ b) s at p vs vs₁ out out₁ None
 lays-stop pass a b s at p vs vs₁ out out₁ f =
     let one = lay a (take p vs) (drop p s) in
@@ -189,7 +190,7 @@ lays-stop pass a b s at p vs vs₁ out out₁ f =
     }
 
 -- ---- one row
-module _ (pass : Pass) (r : Row) (s : List ℕ) (at p : ℕ) (vs out : List ℕ) (inside : p < length vs) where
+module _ (pass : Pass) (r : Row) (s : List ℕ) (at p : ℕ) (vs : List ℕ) (out : Lent) (inside : p < length vs) where
   -- a row that is not there: its place, which holds 0, is passed
   pub lay-off : present (take p vs) r.hang ≡ false → get_or vs p 0 ≡ 0 → Lays pass (r ∷ []) s at p vs vs out out (Some at)
   unfolding lay vals emit digits
@@ -205,7 +206,7 @@ module _ (pass : Pass) (r : Row) (s : List ℕ) (at p : ℕ) (vs out : List ℕ)
     where
       nothing-done : (pass : Pass) → Does pass (record { row = nothing; val = 0 } ∷ []) at out out
       nothing-done Judge = tt
-      nothing-done Lay = λ _. over_none out at
+      nothing-done Lay = λ _. over_none out.bytes at
 
   -- a row that is there, with its value
   module _ (e : present (take p vs) r.hang ≡ true) (v : ℕ) (h : held r (get_or s p 0) ≡ v) where
@@ -216,7 +217,7 @@ module _ (pass : Pass) (r : Row) (s : List ℕ) (at p : ℕ) (vs out : List ℕ)
     unfolding lay
     one = rw (e, get_or-drop p s 0 0, add-zero p, h)
 
-    lay-next : (out' : List ℕ) → Does pass (here ∷ []) at out out' → Finds pass (good here ≡ true)
+    lay-next : (out' : Lent) → Does pass (here ∷ []) at out out' → Finds pass (good here ≡ true)
         → Lays pass (r ∷ []) s at p vs (set vs p v) out out' (Some (at + r.width))
     unfolding vals emit
     lay-next out' d g =
@@ -256,9 +257,9 @@ Stop None = Unit {0}
 -- the cleaned record so far, and the bytes lent
 pub record Kept : Type 0 where
   pub vs : List ℕ
-  pub out : List ℕ
+  pub out : Lent
 
-abbrev pub kept : List ℕ → List ℕ → Kept
+abbrev pub kept : List ℕ → Lent → Kept
 kept vs out = record { vs = vs; out = out }
 
 module _ (pass : Pass) (s : List ℕ) where
@@ -304,7 +305,7 @@ module _ (pass : Pass) (s : List ℕ) where
       }
 
 -- ---- a field: `code` is what is left of the value after the first, around the end of 32 bits
-module _ (f : Field) (s : List ℕ) (at p : ℕ) (vs out : List ℕ) (inside : p < length vs) (narrow : Narrow f) (v : ℕ) (h : v ≡ held (row_for f [])
+module _ (f : Field) (s : List ℕ) (at p : ℕ) (vs : List ℕ) (out : Lent) (inside : p < length vs) (narrow : Narrow f) (v : ℕ) (h : v ≡ held (row_for f [])
     (get_or s p 0)) (code : ℕ) (wraps : (code + f.first) % 2 ^ 32 ≡ v) (low : code < 2 ^ 32) where
   abbrev value : Laid
   value = record { row = row_for f []; val = v }
@@ -326,14 +327,14 @@ module _ (f : Field) (s : List ℕ) (at p : ℕ) (vs out : List ℕ) (inside : p
           let b : f.first + f.codes ≤ v = omega (arith, narrow.low, leb-true f.first v e) in
           rw (e, le-ltb v (f.first + f.codes) b, narrow.plain)
 
-  pub field-laid : (out' : List ℕ) → out' ≡ put_at out at f.width code → Lays Lay (row_for f [] ∷ []) s at p vs (set vs p v) out out' (Some (at + f.width))
+  pub field-laid : (out' : Lent) → out'.bytes ≡ put_at out.bytes at f.width code → Lays Lay (row_for f [] ∷ []) s at p vs (set vs p v) out out' (Some (at + f.width))
   unfolding present emit
   field-laid out' e = lay-next Lay (row_for f []) s at p vs out inside refl v (sym h) out' does tt
     where
-      does : all good (value ∷ []) ≡ true → Over out out' at (emit (value ∷ []))
+      does : all good (value ∷ []) ≡ true → Over out.bytes out'.bytes at (emit (value ∷ []))
       does g =
           let tests = both_true (leb f.first v) (ltb v (f.first + f.codes)) (both_true (good value) true g).0 in
           let d : code ≡ v - f.first = omega (arith, narrow.low, leb-true f.first v tests.0) in
-          subst (λ (l : List Bool). Over out out' at l) (sym (append-nil (digits f.width (v - f.first))))
-          (subst (λ (x : List ℕ). Over out x at (digits f.width (v - f.first))) (sym (e ∙ ap (put_at out at f.width) d))
-          (over-put out at f.width (v - f.first) narrow.few))
+          subst (λ (l : List Bool). Over out.bytes out'.bytes at l) (sym (append-nil (digits f.width (v - f.first))))
+          (subst (λ (x : List ℕ). Over out.bytes x at (digits f.width (v - f.first))) (sym (e ∙ ap (put_at out.bytes at f.width) d))
+          (over-put out.bytes at f.width (v - f.first) narrow.few))

@@ -1,6 +1,6 @@
--- An element's rows, passed: what a shape finds, under its line's conditions or without.
+-- An element's rows, passed: what a shape finds, under its conditions or without.
 -- Assumes nothing.
-use Rattle.std.proofs.Common.{◌≡◌, ℕ, zero, suc, ◌+◌, ◌*◌, ◌^◌, ◌<◌, ◌≤◌, Bool, true, false, cond, T, eqb, ltb, leb, ◌⊎◌, Option, Some, None, List, [], ◌∷◌, ◌++◌, length, get_or, take, drop, sym, refl, ap, ◌∙◌, subst, inl, inr, add-zero, add-one, arith, length-take-le, get_or-drop, get_or-take, take-suc, leb-true}
+use Rattle.std.proofs.Common.{◌≡◌, ℕ, zero, suc, ◌+◌, ◌*◌, ◌^◌, ◌<◌, ◌≤◌, Bool, true, false, cond, eqb, ltb, leb, ◌⊎◌, Option, Some, None, List, [], ◌∷◌, ◌++◌, length, get_or, take, drop, sym, refl, ap, ◌∙◌, subst, inl, inr, add-zero, add-one, arith, length-take-le, get_or-drop, get_or-take, take-suc, leb-true}
 use mathlib.Core.List.{tail}
 use native.Mathlib.Decide.{dec_lt}
 use lib.Seq.{get_or_at}
@@ -10,25 +10,24 @@ use Rattle.refusal.specs.declared.Refusal.TheVariants as refusal
 use Rattle.refusal.specs.Number.{number_of}
 use Rattle.bits.specs.Bits.{digits}
 use Rattle.layout.specs.Row.{Row, Condition, is, nothing_since, all, present, nothing, bare}
-use Rattle.layout.specs.Shape.{refuse, No, codes_of, rows_of, span}
+use Rattle.layout.specs.Shape.{refuse, No, codes_of, rows_of, span, conditions_of}
 use Rattle.layout.specs.Write.{Laid, held, lay, good, good_but_group, vals, emit}
 use Rattle.layout.specs.Frame.{places}
 use Rattle.layout.proofs.Tests.{both_true}
-use Rattle.table.specs.Coding.{hang_of, shape_of}
-use Rattle.table.specs.Sound.{Clear, sound}
+use Rattle.layout.specs.declared.Element.{Element}
+use Rattle.table.specs.Sound.{Clear}
 use Rattle.table.proofs.ShapeLaws.{span-some}
 use Rattle.table.proofs.Walks.{clear_later}
-use Rattle.table.proofs.Absent.{present-hang, shut-element, passes, length-shape}
+use Rattle.table.proofs.Absent.{present-before, shut-element, passes, length-shape}
 use Rattle.layout.specs.declared.Shape.{Shape}
 use Rattle.layout.specs.declared.Shape.TheVariants.{Number, Choice, Identity, Ending, Missing, Nothing}
 use Rattle.layout.specs.declared.Shape.TheVariants as shape
-use Rattle.writing.specs.declared.Pass.{Pass}
-use Rattle.writing.specs.declared.Pass.TheVariants.{Judge, Lay}
-use Rattle.writing.specs.declared.Passed.{Passed}
-use Rattle.writing.specs.declared.Passed.TheVariants.{Empty, Held, NoGroup}
-use Rattle.writing.specs.Lay.{Does, Finds, Lies, Lays, Ready, Any, Writes}
+use Rattle.writing.specs.Pass.{Pass, Judge, Lay}
+use Rattle.writing.specs.declared.walks.Passed.{Passed}
+use Rattle.writing.specs.declared.walks.Passed.TheVariants.{Empty, Held, NoGroup}
+use Rattle.writing.specs.Lay.{Lent, Does, Finds, Lies, Lays, Ready, Any, Writes}
 use Rattle.writing.specs.Found.{PassedWithin, Looks, LooksAlong, Found, Puts, found_of, barred_of}
-use Rattle.writing.proofs.LayLaws.{finds, lay-under, over_none, kept, laying}
+use Rattle.writing.proofs.LayLaws.{stays_none, finds, lay-under, over_none, kept, laying}
 
 -- ---- what the first row of an element leaves in the cleaned record
 module _ (c : Row) (more : List Row) (plain : c.hang ≡ []) where
@@ -37,7 +36,7 @@ module _ (c : Row) (more : List Row) (plain : c.hang ≡ []) where
   unfolding lay present
   first-laid done s = rw plain
 
-  module _ (pass : Pass) (s : List ℕ) (at at' p : ℕ) (vs vs' out out' : List ℕ) (inside : p < length vs)
+  module _ (pass : Pass) (s : List ℕ) (at at' p : ℕ) (vs vs' : List ℕ) (out out' : Lent) (inside : p < length vs)
       (f : Lays pass (c ∷ more) s at p vs vs' out out' (Some at')) where
     here : held c (get_or (drop p s) 0 0) ≡ held c (get_or s p 0)
     here = ap (held c) (get_or-drop p s 0 0 ∙ ap (λ (q : ℕ). get_or s q 0) (add-zero p))
@@ -89,7 +88,7 @@ found-held {x} {at} {v} e d = go v d ∙ ap (λ (y : Option ℕ). found_of y v) 
     go zero d = absurd (d refl)
     go (suc v) d = refl
 
-module _ {pass : Pass} {c : Row} {more : List Row} {s : List ℕ} {at p : ℕ} {out out' : List ℕ} {x : Option ℕ} (f : Writes pass Any (c ∷ more) s at p out out' x)
+module _ {pass : Pass} {c : Row} {more : List Row} {s : List ℕ} {at p : ℕ} {out out' : Lent} {x : Option ℕ} (f : Writes pass Any (c ∷ more) s at p out out' x)
     (plain : c.hang ≡ []) (one : (more ≡ []) ⊎ (0 < c.first)) (inside : p < places) where
   pub puts-found : (known : List ℕ → Type 0) (value : ℕ) (r : Option Passed) → value ≡ held c (get_or s p 0) → r ≡ found_of x value
       → Puts pass known (c ∷ more) s at p out out' r
@@ -98,11 +97,10 @@ module _ {pass : Pass} {c : Row} {more : List Row} {s : List ℕ} {at p : ℕ} {
       go : (x : Option ℕ) (value : ℕ) → value ≡ held c (get_or s p 0) → Writes pass Any (c ∷ more) s at p out out' x
           → Puts pass known (c ∷ more) s at p out out' (found_of x value)
       go None value d f =
-          record { size = f.size; keeps = f.keeps; within = tt; finds = λ vs size z k. let w = f.lays vs size z tt in (w.0, w.1.size, w.1.ends) }
+          record { lent = f.lent; within = tt; finds = λ vs size z k. let w = f.lays vs size z tt in (w.0, w.1.size, w.1.ends) }
       go (Some at') zero d f =
           record {
-            size = f.size;
-            keeps = f.keeps;
+            lent = f.lent;
             within = f.within;
             finds = λ vs size z k.
                 let w = f.lays vs size z tt in (
@@ -113,8 +111,7 @@ module _ {pass : Pass} {c : Row} {more : List Row} {s : List ℕ} {at p : ℕ} {
           }
       go (Some at') (suc v) d f =
           record {
-            size = f.size;
-            keeps = f.keeps;
+            lent = f.lent;
             within = f.within;
             finds = λ vs size z k.
                 let w = f.lays vs size z tt in
@@ -123,7 +120,7 @@ module _ {pass : Pass} {c : Row} {more : List Row} {s : List ℕ} {at p : ℕ} {
           }
 
 -- ---- a refusal's row
-module _ (n : Refusal) (c : Condition) (s : List ℕ) (at p : ℕ) (out : List ℕ) where
+module _ (n : Refusal) (c : Condition) (s : List ℕ) (at p : ℕ) (out : Lent) where
   abbrev bar : List Row
   bar = refuse n 1 (c ∷ []) ∷ []
 
@@ -149,8 +146,8 @@ module _ (n : Refusal) (c : Condition) (s : List ℕ) (at p : ℕ) (out : List �
 
         does : (pass : Pass) (b : Bool) → Does pass (bar_laid b) at out out
         does Judge b = tt
-        does Lay true = λ g. over_none out at
-        does Lay false = λ g. over_none out at
+        does Lay true = λ g. over_none out.bytes at
+        does Lay false = λ g. over_none out.bytes at
 
     -- the walk that lays passes it
     bar-laying : (b : Bool) → present (take p vs) (c ∷ []) ≡ b → Found Lay (lay bar (take p vs) (drop p s)) 1 at p vs vs out out (Some (Empty at))
@@ -179,12 +176,12 @@ module _ (n : Refusal) (c : Condition) (s : List ℕ) (at p : ℕ) (out : List �
         go : (pass : Pass) (b : Bool) → ((vs : List ℕ) → Clear vs p → known vs → Finds pass (present (take p vs) (c ∷ []) ≡ b))
             → Puts pass known bar s at p out out (barred_of pass b refusal at)
         go Judge true t =
-            record { size = refl; keeps = refl; within = small; finds = λ vs size z k. (vs, refl, stops vs (omega arith) z (t vs z k)) }
+            record { lent = stays_none; within = small; finds = λ vs size z k. (vs, refl, stops vs (omega arith) z (t vs z k)) }
         go Judge false t =
-            record { size = refl; keeps = refl; within = omega arith; finds = λ vs size z k. (vs, refl, bar-off vs (omega arith) z (t vs z k)) }
-        go Lay b t = record { size = refl; keeps = tt; within = omega arith; finds = λ vs size z k. (vs, refl, bar-laying vs (omega arith) z _ refl) }
+            record { lent = stays_none; within = omega arith; finds = λ vs size z k. (vs, refl, bar-off vs (omega arith) z (t vs z k)) }
+        go Lay b t = record { lent = stays_none; within = omega arith; finds = λ vs size z k. (vs, refl, bar-laying vs (omega arith) z _ refl) }
 
--- ---- under the line's conditions
+-- ---- under the element's conditions
 lay-shape : (x : Shape) (hang : List Condition) (p : ℕ) (done s : List ℕ) → present done hang ≡ true → lay (rows_of x hang p) done s ≡ lay (rows_of x [] p) done s
 unfolding rows_of
 lay-shape (Number w) hang p done s e = lay-under w 0 (2 ^ w) Reserved 0 [] hang [] done s e
@@ -198,49 +195,39 @@ lay-shape (Nothing o) hang p done s e = lay-under 0 0 0 NothingFollows 1 (nothin
 pub first-inside : {at p : ℕ} (x : Shape) → Ready at p (span x) → p < places
 first-inside x now = omega (arith, now.room, span-some x)
 
--- what stands, holds of the shape that the line's number says
-pub shape-ready : (line at p : ℕ) (x : Shape) → x ≡ shape_of line → Ready at p (span (shape_of line)) × T (sound (shape_of line) p)
-    → Ready at p (span x) × T (sound x p)
-shape-ready line at p x d now = subst (λ (y : Shape). Ready at p (span y) × T (sound y p)) (sym d) now
-
-module _ (pass : Pass) (line : ℕ) (s : List ℕ) (last at p : ℕ) where
+module _ (pass : Pass) (e : Element) (s : List ℕ) (last at p : ℕ) where
   abbrev hang : List Condition
-  hang = hang_of line
+  hang = conditions_of e.0
 
-  pub element-puts : (x : Shape) {out out' : List ℕ} {r : Option Passed} → x ≡ shape_of line → present s hang ≡ true
-      → Puts pass (Looks pass s last p x) (rows_of x [] p) s at p out out' r
-      → Puts pass (LooksAlong pass s last p line) (rows_of (shape_of line) hang p) s at p out out' r
-  element-puts x {out} {out'} {r} d on f = subst (λ (y : Shape). Puts pass (LooksAlong pass s last p line) (rows_of y hang p) s at p out out' r) d under
+  pub element-puts : {out out' : Lent} {r : Option Passed} → present s hang ≡ true
+      → Puts pass (Looks pass s last p e.1) (rows_of e.1 [] p) s at p out out' r
+      → Puts pass (LooksAlong pass s last p e) (rows_of e.1 hang p) s at p out out' r
+  element-puts {out} {out'} {r} on f =
+      record {
+        lent = f.lent;
+        within = subst (λ (m : ℕ). PassedWithin r (at + 32 * m)) n f.within;
+        finds = λ vs size z k.
+            let w = f.finds vs size z (k.looks on) in
+            let same = lay-shape e.1 hang p (take p vs) (drop p s) (present-before e.0 vs p z ∙ k.hang ∙ on) in (
+              w.0,
+              w.1,
+              subst (λ (l : List Laid). Found pass l (length (rows_of e.1 hang p)) at p vs w.0 out out' r) (sym same)
+                  (subst (λ (m : ℕ). Found pass (lay (rows_of e.1 [] p) (take p vs) (drop p s)) m at p vs w.0 out out' r) n w.2),
+            );
+      }
     where
-      n : length (rows_of x [] p) ≡ length (rows_of x hang p)
-      n = length-shape x [] p ∙ sym (length-shape x hang p)
+      n : length (rows_of e.1 [] p) ≡ length (rows_of e.1 hang p)
+      n = length-shape e.1 [] p ∙ sym (length-shape e.1 hang p)
 
-      under : Puts pass (LooksAlong pass s last p line) (rows_of x hang p) s at p out out' r
-      under =
-          record {
-            size = f.size;
-            keeps = f.keeps;
-            within = subst (λ (m : ℕ). PassedWithin r (at + 32 * m)) n f.within;
-            finds = λ vs size z k.
-                let w = f.finds vs size z (subst (λ (y : Shape). Looks pass s last p y vs) (sym d) (k.looks on)) in
-                let same = lay-shape x hang p (take p vs) (drop p s) (present-hang line vs p z ∙ k.hang ∙ on) in (
-                  w.0,
-                  w.1,
-                  subst (λ (l : List Laid). Found pass l (length (rows_of x hang p)) at p vs w.0 out out' r) (sym same)
-                      (subst (λ (m : ℕ). Found pass (lay (rows_of x [] p) (take p vs) (drop p s)) m at p vs w.0 out out' r) n w.2),
-                );
-          }
-
-  pub element-off : (out : List ℕ) → present s hang ≡ false → p + span (shape_of line) ≤ places
-      → Puts pass (LooksAlong pass s last p line) (rows_of (shape_of line) hang p) s at p out out (Some (Empty at))
+  pub element-off : (out : Lent) → present s hang ≡ false → p + span e.1 ≤ places
+      → Puts pass (LooksAlong pass s last p e) (rows_of e.1 hang p) s at p out out (Some (Empty at))
   element-off out off room =
       record {
-        size = refl;
-        keeps = finds pass refl;
+        lent = stays_none;
         within = omega arith;
         finds = λ vs size z k.
-            let shut = shut-element line (shape_of line) p vs (k.hang ∙ off) z in
-            let few = length-shape (shape_of line) hang p in
-            let f = passes (laying pass s) at p (kept vs out) (rows_of (shape_of line) hang p) shut z (omega arith) in
+            let shut = shut-element e.0 e.1 p vs (k.hang ∙ off) z in
+            let few = length-shape e.1 hang p in
+            let f = passes (laying pass s) at p (kept vs out) (rows_of e.1 hang p) shut z (omega arith) in
             (vs, refl, (f.ends, finds pass z));
       }

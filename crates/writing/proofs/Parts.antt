@@ -1,15 +1,15 @@
 -- The parts of the writer, one behind the other: a field, then rows that look at it; what the next part starts from.
 -- Assumes nothing.
 use Rattle.std.proofs.Common.{◌≡◌, ℕ, suc, ◌+◌, ◌*◌, ◌<◌, ◌≤◌, Option, Some, None, List, [], ◌∷◌, length, get_or, set, ◌∙◌, subst, arith, length-set, get_or-set_other, get_or-set_same}
-use Rattle.writing.specs.declared.Pass.{Pass}
+use Rattle.writing.specs.Pass.{Pass}
 use Rattle.layout.specs.Row.{Row}
 use Rattle.layout.specs.Frame.{places}
 use Rattle.layout.specs.Write.{held}
 use Rattle.table.specs.declared.Field.{Field}
 use Rattle.table.specs.Fields.{row_for}
 use Rattle.table.specs.Sound.{Clear}
-use Rattle.writing.specs.Lay.{most_bits, Within, Ready, Passes, Lays, Known, Writes}
-use Rattle.writing.proofs.LayLaws.{kept, laying, keeps_on}
+use Rattle.writing.specs.Lay.{Lent, most_bits, Within, Ready, Passes, Lays, Known, Writes}
+use Rattle.writing.proofs.LayLaws.{kept, laying, stays_on}
 
 -- ---- what the next part starts from
 pub ready-most : {at p n : ℕ} → Ready at p n → at ≤ most_bits
@@ -31,22 +31,21 @@ within_on None at at₁ n k m e h w = tt
 pub clear-set : (vs : List ℕ) (p q v : ℕ) → Clear vs p → p ≤ q → Clear (set vs q v) (q + 1)
 clear-set vs p q v z h i l = get_or-set_other vs q i v 0 (λ e. omega arith) ∙ z i (omega arith)
 
-module _ {pass : Pass} {f : Field} {v at : ℕ} {out out₁ : List ℕ} {r₁ : Option ℕ} (passed : Passes pass f v at out out₁ r₁) {s : List ℕ} {p : ℕ}
+module _ {pass : Pass} {f : Field} {v at : ℕ} {out out₁ : Lent} {r₁ : Option ℕ} (passed : Passes pass f v at out out₁ r₁) {s : List ℕ} {p : ℕ}
     (inside : p < places) (is : v ≡ held (row_for f []) (get_or s p 0)) where
   here : (vs : List ℕ) → length vs ≡ places → Lays pass (row_for f [] ∷ []) s at p vs (set vs p v) out out₁ r₁
   here vs size = passed.lays s vs p (omega arith) is
 
   -- a field alone
   pub field-writes : (known : List ℕ → Type 0) → Writes pass known (row_for f [] ∷ []) s at p out out₁ r₁
-  field-writes known = record { size = passed.size; keeps = passed.keeps; within = passed.within; lays = λ vs size z k. (set vs p v, here vs size) }
+  field-writes known = record { lent = passed.lent; within = passed.within; lays = λ vs size z k. (set vs p v, here vs size) }
 
   -- a field, and rows that know its value
-  pub field-then : (at₁ : ℕ) (more : List Row) (out₂ : List ℕ) (r : Option ℕ) (known : List ℕ → Type 0) → v ≡ get_or s p 0 → r₁ ≡ Some at₁
+  pub field-then : (at₁ : ℕ) (more : List Row) (out₂ : Lent) (r : Option ℕ) (known : List ℕ → Type 0) → v ≡ get_or s p 0 → r₁ ≡ Some at₁
       → Writes pass (Known s p) more s at₁ (p + 1) out₁ out₂ r → Writes pass known (row_for f [] ∷ more) s at p out out₂ r
   field-then at₁ more out₂ r known d e g =
       record {
-        size = g.size ∙ passed.size;
-        keeps = keeps_on pass out out₁ out₂ passed.keeps g.keeps;
+        lent = stays_on passed.lent g.lent;
         within = within_on r at at₁ 1 (length more) (suc (length more)) (omega arith) (subst (λ (x : Option ℕ). Within x (at + 32)) e passed.within) g.within;
         lays = λ vs size z k.
             let vs₁ = set vs p v in
@@ -61,8 +60,7 @@ module _ {pass : Pass} {f : Field} {v at : ℕ} {out out₁ : List ℕ} {r₁ : 
   pub field-stop : (more : List Row) (known : List ℕ → Type 0) → r₁ ≡ None → Writes pass known (row_for f [] ∷ more) s at p out out₁ None
   field-stop more known e =
       record {
-        size = passed.size;
-        keeps = passed.keeps;
+        lent = passed.lent;
         within = tt;
         lays = λ vs size z k. (
           set vs p v,

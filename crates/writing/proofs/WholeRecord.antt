@@ -15,23 +15,20 @@ use Rattle.layout.specs.Write.{Laid, lay, good, good_but_group, vals, emit}
 use Rattle.layout.specs.Chain.{looks, earlier, chained, chained_from, bound, bounded}
 use Rattle.layout.proofs.Tests.{left, right, and-true, and-false, all_append, all_weaker}
 use Rattle.layout.proofs.Chains.{tables-chained, tables-bounded, chain_first, looks-agree, missing-agrees}
-use Rattle.table.specs.Coding.{hang_of, shape_of, places_of}
-use Rattle.table.specs.Lines.{first_line, past, line_number}
 use Rattle.table.specs.Sound.{Clear, sound}
 use Rattle.table.proofs.Absent.{length-shape}
 use Rattle.table.proofs.Walks.{clear_none, clear_later}
 use Rattle.table.proofs.ShapeLaws.{sound-nothing}
-use Rattle.table.proofs.TableLaws.{Said, said, Own, Placed, placed-none, first, line-room, line-sound, line-span, line-rows, line-more}
-use Rattle.writing.specs.declared.Pass.{Pass}
-use Rattle.writing.specs.declared.Pass.TheVariants.{Judge, Lay}
-use Rattle.writing.specs.declared.Passed.{Passed}
-use Rattle.writing.specs.declared.Passed.TheVariants.{Empty, Held}
-use Rattle.writing.specs.declared.Passed.TheVariants as passed
+use Rattle.table.proofs.TableLaws.{Placed, placed-none, first, element-room, element-sound, element-rows, element-more}
+use Rattle.writing.specs.Pass.{Pass, Judge, Lay}
+use Rattle.writing.specs.declared.walks.Passed.{Passed}
+use Rattle.writing.specs.declared.walks.Passed.TheVariants.{Empty, Held}
+use Rattle.writing.specs.declared.walks.Passed.TheVariants as passed
 use Rattle.refusal.specs.declared.Refusal.TheVariants.{Reserved, NoGroup}
-use Rattle.writing.specs.Lay.{Does, Finds, Lies, Ready}
+use Rattle.writing.specs.Lay.{Lent, Stays, Does, Finds, Lies, Ready}
 use Rattle.writing.specs.Found.{Looks, LooksAlong, Found, PassedWithin, Puts}
 use Rattle.writing.specs.Whole.{Outcome, Walks}
-use Rattle.writing.proofs.LayLaws.{lay-append, vals-append, lies-none, lies-join, keeps_on, finds}
+use Rattle.writing.proofs.LayLaws.{lay-append, vals-append, lies-none, lies-join, stays_none, stays_on, finds}
 use Rattle.writing.proofs.Since.{Since, since_none, since-empty, since-held}
 
 -- what has a code has one or is the missing group's
@@ -54,162 +51,139 @@ abbrev Fine : Pass → List Laid → Bool → Type 0
 Fine Judge done grouped = (all good done ≡ grouped) × (all good_but_group done ≡ true)
 Fine Lay done grouped = grouped ≡ false → all good done ≡ false
 
--- `count` elements are passed, the line k is the next, and begins at the place p
-pub record Wrote (pass : Pass) (kind : Kind) (s out₀ out : List ℕ) (grouped : Bool) (last at p k : ℕ) : Type 0 where
-  pub count : ℕ
-  pub line : k ≡ first_line kind + count
+-- `count` elements of the kind's table are passed, and the next begins at the place p
+pub record Wrote (pass : Pass) (kind : Kind) (es : List Element) (s : List ℕ) (out₀ out : Lent) (grouped : Bool) (last at p count : ℕ) : Type 0 where
   pub vs : List ℕ
   pub size : length vs ≡ places
   pub clear : Clear vs p
   pub done : List Laid
-  pub whole : laid kind s ≡ done ++ lay (unrolled (drop count (table_of kind)) p) (take p vs) (drop p s)
+  pub whole : laid kind s ≡ done ++ lay (unrolled (drop count (es)) p) (take p vs) (drop p s)
   pub lies : Lies pass done p head_bits at 0 (replicate places 0) vs out₀ out
-  pub same : length out ≡ length out₀
-  pub keeps : Finds pass (out ≡ out₀)
+  pub lent : Stays out₀ out
   pub low : at ≤ 32 * p + head_bits
   pub fine : Fine pass done grouped
-  pub placed : Placed (table_of kind) p count
-  pub chained : T (chained_from (rows kind) (drop count (table_of kind)) p)
-  pub bounds : T (bounded (table_of kind) (drop count (table_of kind)))
-  pub since : Finds pass (Since (table_of kind) count vs p last)
+  pub placed : Placed (es) p count
+  pub chained : T (chained_from (rows kind) (drop count (es)) p)
+  pub bounds : T (bounded (es) (drop count (es)))
+  pub since : Finds pass (Since (es) count vs p last)
 
 -- ---- before the first element
-pub wrote_none : (pass : Pass) (kind : Kind) (s out : List ℕ) (k : ℕ) → k ≡ first_line kind → Wrote pass kind s out out true 0 head_bits 0 k
+pub wrote_none : (pass : Pass) (kind : Kind) (es : List Element) (s : List ℕ) (out : Lent) → es ≡ table_of kind
+    → Wrote pass kind es s out out true 0 head_bits 0 0
 unfolding rows
-wrote_none pass kind s out k e =
-    record {
-      count = 0;
-      line = omega (arith, e);
+wrote_none pass kind es s out table =
+    subst (λ (l : List Element). Wrote pass kind l s out out true 0 head_bits 0 0) (sym table)
+    (record {
       vs = replicate places 0;
       size = length-replicate {A = ℕ} places 0;
       clear = clear_none places 0;
       done = [];
       whole = refl;
       lies = lies-none pass head_bits 0 (replicate places 0) out;
-      same = refl;
-      keeps = finds pass refl;
+      lent = stays_none;
       low = omega arith;
       fine = fine pass;
       placed = placed-none kind;
       chained = tables-chained kind;
       bounds = tables-bounded kind;
       since = finds pass (since_none (table_of kind) (replicate places 0));
-    }
+    })
   where
     fine : (pass : Pass) → Fine pass [] true
     fine Judge = (refl, refl)
     fine Lay = λ d. d
 
-module _ {pass : Pass} {kind : Kind} {s out₀ out : List ℕ} {grouped : Bool} {last at p k begin end : ℕ} (own : Own kind begin end)
-    (now : Wrote pass kind s out₀ out grouped last at p k) where
-  abbrev es : List Element
-  es = table_of kind
-
+module _ {pass : Pass} {kind : Kind} {es : List Element} {s : List ℕ} {out₀ out : Lent} {grouped : Bool} {last at p count : ℕ}
+    (now : Wrote pass kind es s out₀ out grouped last at p count) where
   -- the cleaned record so far is the whole one's front
   front : take p now.vs ≡ take p (clean kind s)
   unfolding clean
   front =
-      let rest = lay (unrolled (drop now.count es) p) (take p now.vs) (drop p s) in
+      let rest = lay (unrolled (drop count es) p) (take p now.vs) (drop p s) in
       let here : take p now.vs ≡ vals now.done = ap (λ (n : ℕ). take n now.vs) (sym (zero-add p)) ∙ now.lies.front in
       let n : length (vals now.done) ≡ p = sym (ap length here) ∙ length-take-le p now.vs (omega (arith, now.size, now.placed.room)) in
       here
       ∙ sym (ap (λ (l : List Laid). take p (vals l)) now.whole ∙ ap (take p) (vals-append now.done rest) ∙ take_at (vals now.done) (vals rest) p n)
 
-  -- ---- a turn: the line's number n
-  module _ (less : k < end) {n : ℕ} (number : n ≡ line_number k) where
-    inside : now.count < length es
-    inside = omega (arith, own.ends, now.line)
-
+  -- ---- a turn: the element that comes, whatever stands past the end
+  module _ (d : Element) (less : count < length es) where
     abbrev e : Element
-    e = get_or es now.count past
+    e = get_or es count d
 
-    says : Said n e
-    says = said kind k now.count n now.line inside number
+    next : drop count es ≡ e ∷ drop (count + 1) es
+    next = first d now.placed less
 
-    next : drop now.count es ≡ e ∷ drop (now.count + 1) es
-    next = first now.placed inside
-
-    pub turn-room : p + places_of n ≤ places
-    turn-room = omega (arith, line-room now.placed inside says, line-span now.placed inside says)
+    pub turn-room : p + span e.1 ≤ places
+    turn-room = element-room d now.placed less
 
     -- what its passing starts from
-    pub turn-ready : Ready at p (span (shape_of n)) × T (sound (shape_of n) p)
-    turn-ready = (record { room = line-room now.placed inside says; low = now.low }, line-sound now.placed inside says)
+    pub turn-ready : Ready at p (span e.1) × T (sound e.1 p)
+    turn-ready = (record { room = turn-room; low = now.low }, element-sound d now.placed less)
 
-    chain : T (chained_from (rows kind) (e ∷ drop (now.count + 1) es) p)
+    chain : T (chained_from (rows kind) (e ∷ drop (count + 1) es) p)
     chain = subst (λ (l : List Element). T (chained_from (rows kind) l p)) next now.chained
 
-    bounds : T (bound es e.1 && bounded es (drop (now.count + 1) es))
+    bounds : T (bound es e.1 && bounded es (drop (count + 1) es))
     unfolding bounded
     bounds = subst (λ (l : List Element). T (bounded es l)) next now.bounds
 
     -- what it looks at, the caller's record tells as the cleaned one would
-    looks-along : LooksAlong pass s last p n now.vs
-    looks-along =
-        record {
-          hang = ap (present now.vs) says.hang ∙ agree.0 ∙ sym (ap (present s) says.hang);
-          looks = λ on. go (shape_of n) says.shape (ap (present s) (sym says.hang) ∙ on);
-        }
+    looks-along : LooksAlong pass s last p e now.vs
+    looks-along = record { hang = agree.0; looks = λ on. go e.1 refl on }
       where
         links : T (chained (rows kind) [] (looks e)) × T (all (earlier p) (looks e))
-            × T (chained_from (rows kind) (drop (now.count + 1) es) (p + span e.1))
-        links = chain_first (rows kind) e (drop (now.count + 1) es) p chain
+            × T (chained_from (rows kind) (drop (count + 1) es) (p + span e.1))
+        links = chain_first (rows kind) e (drop (count + 1) es) p chain
 
         agree : (present now.vs (conditions_of e.0) ≡ present s (conditions_of e.0)) × (present now.vs (looks e) ≡ present s (looks e))
         agree = looks-agree kind s now.vs p e links.0 links.1 front
 
-        noted : (pass : Pass) (o : ℕ) → e.1 ≡ Nothing o → Finds pass (Since es now.count now.vs p last) → Looks pass s last p (Nothing o) now.vs
-        noted Lay o d since = tt
-        noted Judge o d since =
-            let bounded = subst (λ (x : Shape). T (bound es x)) d (left (bound es e.1) (bounded es (drop (now.count + 1) es)) bounds) in
-            let before = subst (λ (x : Shape). T (sound x p)) d (subst (λ (x : Shape). T (sound x p)) says.shape (line-sound now.placed inside says)) in
-            since.tells (suc o) bounded (omega (arith, sound-nothing (Nothing o) p o refl before))
+        noted : (pass : Pass) (o : ℕ) → e.1 ≡ Nothing o → Finds pass (Since es count now.vs p last) → Looks pass s last p (Nothing o) now.vs
+        noted Lay o q since = tt
+        noted Judge o q since =
+            let bounded = subst (λ (x : Shape). T (bound es x)) q (left (bound es e.1) (bounded es (drop (count + 1) es)) bounds) in
+            since.tells (suc o) bounded (omega (arith, sound-nothing e.1 p o q (element-sound d now.placed less)))
 
         go : (x : Shape) → x ≡ e.1 → present s (conditions_of e.0) ≡ true → Looks pass s last p x now.vs
-        go (Number w) d on = tt
-        go (Choice w m) d on = tt
-        go Identity d on = tt
-        go (shape.List items) d on = tt
-        go Ending d on = tt
-        go (Missing q) d on = missing-agrees kind s now.vs p e links.0 links.1 front q (sym d) on
-        go (Nothing o) d on = noted pass o (sym d) now.since
+        go (Number w) q on = tt
+        go (Choice w m) q on = tt
+        go Identity q on = tt
+        go (shape.List items) q on = tt
+        go Ending q on = tt
+        go (Missing o) q on = missing-agrees kind s now.vs p e links.0 links.1 front o (sym q) on
+        go (Nothing o) q on = noted pass o (sym q) now.since
 
     abbrev own-rows : List Row
-    own-rows = rows_of (shape_of n) (hang_of n) p
+    own-rows = rows_of e.1 (conditions_of e.0) p
 
     abbrev here : List Laid
     here = lay own-rows (take p now.vs) (drop p s)
 
     abbrev later : List Row
-    later = unrolled (drop (now.count + 1) es) (p + places_of n)
+    later = unrolled (drop (count + 1) es) (p + span e.1)
 
     split : laid kind s ≡ now.done ++ (here ++ lay later (take p now.vs ++ vals here) (drop (length own-rows) (drop p s)))
     split =
         now.whole
-        ∙ ap (λ (l : List Row). now.done ++ lay l (take p now.vs) (drop p s)) (line-rows now.placed inside says)
+        ∙ ap (λ (l : List Row). now.done ++ lay l (take p now.vs) (drop p s)) (element-rows d now.placed less)
         ∙ ap (λ (l : List Laid). now.done ++ l) (lay-append own-rows later (take p now.vs) (drop p s))
 
-    n-rows : length own-rows ≡ places_of n
-    n-rows = length-shape (shape_of n) (hang_of n) p ∙ sym (line-span now.placed inside says)
+    n-rows : length own-rows ≡ span e.1
+    n-rows = length-shape e.1 (conditions_of e.0) p
 
-    span_same : span e.1 ≡ places_of n
-    span_same = ap span (sym says.shape) ∙ sym (line-span now.placed inside says)
-
-    module _ {out' : List ℕ} {r : Option Passed} {w : ℕ} (f : Puts pass (LooksAlong pass s last p n) own-rows s at p out out' r) (takes : w ≡ places_of n) where
+    module _ {out' : Lent} {r : Option Passed} {w : ℕ} (f : Puts pass (LooksAlong pass s last p e) own-rows s at p out out' r) (takes : w ≡ span e.1) where
       after : (vs' : List ℕ) × (length vs' ≡ length now.vs) × Found pass here (length own-rows) at p now.vs vs' out out' r
       after = f.finds now.vs now.size now.clear looks-along
 
       -- one element more
       more : (grouped' : Bool) (last' at' : ℕ) → Lies pass here (length own-rows) at at' p now.vs after.0 out out' → at' ≤ at + 32 * length own-rows
-          → Fine pass (now.done ++ here) grouped' → Finds pass (Since es (now.count + 1) after.0 (p + span e.1) last')
-          → Wrote pass kind s out₀ out' grouped' last' at' (p + w) (k + 1)
+          → Fine pass (now.done ++ here) grouped' → Finds pass (Since es (count + 1) after.0 (p + span e.1) last')
+          → Wrote pass kind es s out₀ out' grouped' last' at' (p + w) (count + 1)
       more grouped' last' at' g small fine since =
           let vs' = after.0 in
-          let left_over : List Element = drop (now.count + 1) es in
-          subst (λ (x : ℕ). Wrote pass kind s out₀ out' grouped' last' at' (p + x) (k + 1)) (sym takes)
+          let left_over : List Element = drop (count + 1) es in
+          subst (λ (x : ℕ). Wrote pass kind es s out₀ out' grouped' last' at' (p + x) (count + 1)) (sym takes)
           (record {
-            count = now.count + 1;
-            line = omega (arith, now.line);
             vs = vs';
             size = after.1 ∙ now.size;
             clear = λ q l. clear_later (length own-rows) p now.vs vs' g.stays now.clear q (omega (arith, n-rows));
@@ -222,14 +196,13 @@ module _ {pass : Pass} {kind : Kind} {s out₀ out : List ℕ} {grouped : Bool} 
                 subst (λ (x : ℕ). Lies pass (now.done ++ here) (p + x) head_bits at' 0 (replicate places 0) vs' out₀ out') n-rows
                 (lies-join pass now.done here p (length own-rows) head_bits at at' 0 (replicate places 0) now.vs vs' out₀ out out' now.lies
                 (subst (λ (x : ℕ). Lies pass here (length own-rows) at at' x now.vs vs' out out') (sym (zero-add p)) g));
-            same = f.size ∙ now.same;
-            keeps = keeps_on pass out₀ out out' now.keeps f.keeps;
+            lent = stays_on now.lent f.lent;
             low = omega (arith, now.low, n-rows);
             fine = fine;
-            placed = line-more now.placed inside says;
-            chained = subst (λ (x : ℕ). T (chained_from (rows kind) left_over (p + x))) span_same (chain_first (rows kind) e left_over p chain).2;
+            placed = element-more d now.placed less;
+            chained = (chain_first (rows kind) e left_over p chain).2;
             bounds = right (bound es e.1) (bounded es left_over) bounds;
-            since = subst (λ (x : ℕ). Finds pass (Since es (now.count + 1) vs' (p + x) last')) span_same since;
+            since = since;
           })
 
       fine-on : (pass : Pass) → Fine pass now.done grouped → Finds pass (all good here ≡ true) → Fine pass (now.done ++ here) grouped
@@ -247,7 +220,7 @@ module _ {pass : Pass} {kind : Kind} {s out₀ out : List ℕ} {grouped : Bool} 
       fine-missing Lay a g h = λ x. all_append good now.done here ∙ ap (λ (b : Bool). all good now.done && b) g ∙ and-false (all good now.done)
 
       room' : p + span e.1 ≤ length after.0
-      room' = omega (arith, after.1, now.size, turn-room, span_same)
+      room' = omega (arith, after.1, now.size, turn-room)
 
       found : (x : Option Passed) → r ≡ x → Found pass here (length own-rows) at p now.vs after.0 out out' x
       found x e = subst (Found pass here (length own-rows) at p now.vs after.0 out out') e after.2
@@ -255,46 +228,46 @@ module _ {pass : Pass} {kind : Kind} {s out₀ out : List ℕ} {grouped : Bool} 
       within : (x : Option Passed) → r ≡ x → PassedWithin x (at + 32 * length own-rows)
       within x e = subst (λ (y : Option Passed). PassedWithin y (at + 32 * length own-rows)) e f.within
 
-      pub turn-empty : {at' : ℕ} → r ≡ Some (Empty at') → Wrote pass kind s out₀ out' grouped last at' (p + w) (k + 1)
-      turn-empty {at'} d =
-          let g = found (Some (Empty at')) d in
-          more grouped last at' g.0.0 (within (Some (Empty at')) d) (fine-on pass now.fine g.0.1) (noted pass g.0.0 g.1 now.since)
+      pub turn-empty : {at' : ℕ} → r ≡ Some (Empty at') → Wrote pass kind es s out₀ out' grouped last at' (p + w) (count + 1)
+      turn-empty {at'} q =
+          let g = found (Some (Empty at')) q in
+          more grouped last at' g.0.0 (within (Some (Empty at')) q) (fine-on pass now.fine g.0.1) (noted pass g.0.0 g.1 now.since)
         where
           noted : (pass : Pass) → Lies pass here (length own-rows) at at' p now.vs after.0 out out' → Finds pass (Clear after.0 p)
-              → Finds pass (Since es now.count now.vs p last) → Finds pass (Since es (now.count + 1) after.0 (p + span e.1) last)
-          noted Judge g z a = since-empty es now.count now.vs after.0 p last e a next room' g.before z
+              → Finds pass (Since es count now.vs p last) → Finds pass (Since es (count + 1) after.0 (p + span e.1) last)
+          noted Judge g z a = since-empty es count now.vs after.0 p last e a next room' g.before z
           noted Lay g z a = tt
 
-      pub turn-held : {at' : ℕ} → r ≡ Some (Held at') → Wrote pass kind s out₀ out' grouped (p + 1) at' (p + w) (k + 1)
-      turn-held {at'} d =
-          let g = found (Some (Held at')) d in
-          more grouped (p + 1) at' g.0.0 (within (Some (Held at')) d) (fine-on pass now.fine g.0.1) (noted pass g.0.0 g.1 now.since)
+      pub turn-held : {at' : ℕ} → r ≡ Some (Held at') → Wrote pass kind es s out₀ out' grouped (p + 1) at' (p + w) (count + 1)
+      turn-held {at'} q =
+          let g = found (Some (Held at')) q in
+          more grouped (p + 1) at' g.0.0 (within (Some (Held at')) q) (fine-on pass now.fine g.0.1) (noted pass g.0.0 g.1 now.since)
         where
           noted : (pass : Pass) → Lies pass here (length own-rows) at at' p now.vs after.0 out out' → Finds pass (get_or after.0 p 0 ≡ 0 → ⊥)
-              → Finds pass (Since es now.count now.vs p last) → Finds pass (Since es (now.count + 1) after.0 (p + span e.1) (p + 1))
-          noted Judge g some a = since-held es now.count now.vs after.0 p last e a next room' g.before some
+              → Finds pass (Since es count now.vs p last) → Finds pass (Since es (count + 1) after.0 (p + span e.1) (p + 1))
+          noted Judge g some a = since-held es count now.vs after.0 p last e a next room' g.before some
           noted Lay g some a = tt
 
-      pub turn-missing : r ≡ Some passed.NoGroup → Wrote pass kind s out₀ out' false last at (p + w) (k + 1)
-      turn-missing d =
-          let g = found (Some passed.NoGroup) d in
+      pub turn-missing : r ≡ Some passed.NoGroup → Wrote pass kind es s out₀ out' false last at (p + w) (count + 1)
+      turn-missing q =
+          let g = found (Some passed.NoGroup) q in
           more false last at g.0 (omega arith) (fine-missing pass now.fine g.1 g.2) (noted pass now.since)
         where
-          noted : (pass : Pass) → Finds pass (Since es now.count now.vs p last) → Finds pass (Since es (now.count + 1) after.0 (p + span e.1) last)
+          noted : (pass : Pass) → Finds pass (Since es count now.vs p last) → Finds pass (Since es (count + 1) after.0 (p + span e.1) last)
           noted Judge a =
-              let g = found (Some passed.NoGroup) d in
-              since-empty es now.count now.vs after.0 p last e a next room' g.0.before g.3
+              let g = found (Some passed.NoGroup) q in
+              since-empty es count now.vs after.0 p last e a next room' g.0.before g.3
           noted Lay a = tt
 
       pub turn-bad : r ≡ None → Walks pass (laid kind s) out₀ out' (Err Reserved)
-      turn-bad d = record { size = f.size ∙ now.same; keeps = keeps_on pass out₀ out out' now.keeps f.keeps; outcome = outcome pass }
+      turn-bad q = record { lent = stays_on now.lent f.lent; outcome = outcome pass }
         where
           coded : all good_but_group (laid kind s) ≡ false
           coded =
               let rest = lay later (take p now.vs ++ vals here) (drop (length own-rows) (drop p s)) in
               ap (all good_but_group) split ∙ all_append good_but_group now.done (here ++ rest)
               ∙ ap (λ (b : Bool). all good_but_group now.done && b)
-              (all_append good_but_group here rest ∙ ap (λ (b : Bool). b && all good_but_group rest) (found None d))
+              (all_append good_but_group here rest ∙ ap (λ (b : Bool). b && all good_but_group rest) (found None q))
               ∙ and-false (all good_but_group now.done)
 
           outcome : (pass : Pass) → Outcome pass (laid kind s) out₀ out' (Err Reserved)
@@ -302,20 +275,20 @@ module _ {pass : Pass} {kind : Kind} {s out₀ out : List ℕ} {grouped : Bool} 
           outcome Lay = λ g. clash (laid kind s) g (not_good (laid kind s) coded)
 
   -- ---- after the last element
-  module _ (over : end ≤ k) where
+  module _ (over : length es ≤ count) where
     all_done : laid kind s ≡ now.done
     unfolding unrolled lay
     all_done =
         now.whole
         ∙ ap (λ (l : List Element). now.done ++ lay (unrolled l p) (take p now.vs) (drop p s))
-        (drop_of_length-le es {i = now.count} (omega (arith, own.ends, now.line)))
+        (drop_of_length-le es {i = count} over)
         ∙ append-nil now.done
 
     laid-over : (pass : Pass) → Lies pass now.done p head_bits at 0 (replicate places 0) now.vs out₀ out → Does pass (laid kind s) head_bits out₀ out
     laid-over pass f = subst (λ (l : List Laid). Does pass l head_bits out₀ out) (sym all_done) f.does
 
     pub wrote-bits : grouped ≡ true → Walks pass (laid kind s) out₀ out (Ok at)
-    wrote-bits g = record { size = now.same; keeps = now.keeps; outcome = outcome pass now.lies now.fine }
+    wrote-bits g = record { lent = now.lent; outcome = outcome pass now.lies now.fine }
       where
         outcome : (pass : Pass) → Lies pass now.done p head_bits at 0 (replicate places 0) now.vs out₀ out → Fine pass now.done grouped
             → Outcome pass (laid kind s) out₀ out (Ok at)
@@ -326,7 +299,7 @@ module _ {pass : Pass} {kind : Kind} {s out₀ out : List ℕ} {grouped : Bool} 
         outcome Lay f a = laid-over Lay f
 
     pub wrote-group : grouped ≡ false → Walks pass (laid kind s) out₀ out (Err NoGroup)
-    wrote-group g = record { size = now.same; keeps = now.keeps; outcome = outcome pass now.lies now.fine }
+    wrote-group g = record { lent = now.lent; outcome = outcome pass now.lies now.fine }
       where
         outcome : (pass : Pass) → Lies pass now.done p head_bits at 0 (replicate places 0) now.vs out₀ out → Fine pass now.done grouped
             → Outcome pass (laid kind s) out₀ out (Err NoGroup)

@@ -10,13 +10,13 @@ use Rattle.bits.specs.Bits.{digits, value, bits_of, bytes_for, bytes_of, Bytes}
 use Rattle.bits.specs.Field.{put_at}
 use Rattle.bits.proofs.Laws.{length_digits, digits_value, bits_of-drop, bits-bytes, bytes_bits, bytes_of-append, bytes_of-below, put-inside}
 use Rattle.layout.specs.declared.Kind.{Kind}
-use Rattle.writing.specs.declared.Pass.TheVariants.{Judge, Lay}
+use Rattle.writing.specs.Pass.{Judge, Lay}
 use Rattle.layout.specs.Row.{all}
 use Rattle.layout.specs.Write.{good, good_but_group, emit}
 use Rattle.layout.specs.Kinds.{ss_type, action_type}
 use Rattle.layout.proofs.Tests.{told}
 use Rattle.layout.specs.Frame.{head, laid, valid, write, judged_of, written_of, output_of}
-use Rattle.writing.specs.Lay.{Over, most_bits}
+use Rattle.writing.specs.Lay.{Lent, Over, most_bits}
 use Rattle.writing.specs.Whole.{Walks}
 use Rattle.layout.specs.Length.{frame_length, measured_if, measured_of}
 use Rattle.layout.proofs.Frames.{head-length, judged-valid}
@@ -27,7 +27,7 @@ use Rattle.writing.proofs.LayLaws.{over-put, over-join}
 
 -- ---- what the walk that judges finds is what is told of the record
 module _ (kind : Kind) (s : List ℕ) where
-  pub measures : (out out' : List ℕ) (r : Result ℕ Refusal) → Walks Judge (laid kind s) out out' r → r ≡ measured_of kind s
+  pub measures : (out out' : Lent) (r : Result ℕ Refusal) → Walks Judge (laid kind s) out out' r → r ≡ measured_of kind s
   unfolding measured_of judged_of valid write
   measures out out' (Ok n) f =
       let bits = f.outcome.1 ∙ sym (length-append (head kind) (emit (laid kind s)) ∙ ap (λ (m : ℕ). m + length (emit (laid kind s))) (head-length kind)) in
@@ -68,12 +68,13 @@ module _ (kind : Kind) (s : List ℕ) where
         (subst (λ (n : ℕ). Over out₁ out₂ n (digits 4 (action_type kind))) (sym (ap (λ (n : ℕ). 0 + n) (length_digits 6 ss_type)))
         (subst (λ (x : List ℕ). Over out₁ x 6 (digits 4 (action_type kind))) (sym q) (over-put out₁ 6 4 (action_type kind) (omega arith))))
 
-    pub framed : (r : Result ℕ Refusal) → T (valid kind s) → Walks Lay (laid kind s) out₂ out₃ r → Over out out₃ 0 (write kind s)
+    pub framed : (r : Result ℕ Refusal) (lent lent' : Lent) → lent.bytes ≡ out₂ → lent'.bytes ≡ out₃ → T (valid kind s)
+        → Walks Lay (laid kind s) lent lent' r → Over out out₃ 0 (write kind s)
     unfolding valid write
-    framed r v f =
+    framed r lent lent' b b' v f =
         over-join out out₂ out₃ 0 (head kind) (emit (laid kind s)) headed
         (subst (λ (m : ℕ). Over out₂ out₃ m (emit (laid kind s))) (sym (ap (λ (m : ℕ). 0 + m) (head-length kind)))
-        (f.outcome (told (all good (laid kind s)) v)))
+        (rw (← b, ← b') (f.outcome (told (all good (laid kind s)) v))))
 
 -- ---- the spare bits
 pub spare-width : (n : ℕ) → (8 - n % 8) % 8 ≡ 8 * bytes_for n - n
@@ -151,10 +152,3 @@ module _ (kind : Kind) (s out : List ℕ) (start n : ℕ) (told : measured_of ki
             (append-nil (frame ++ drop (bytes_for n) (drop start out)) ∙ ap (λ (a : List ℕ). frame ++ a) (drop-drop (bytes_for n) start out))
             ∙ rw answered,
       )
-
--- what is answered and left of bytes that are as they were
-pub written_after : (kind : Kind) (s : List ℕ) (start : ℕ) {r : Result ℕ Refusal} {out out₁ out₂ : List ℕ} → out₁ ≡ out
-    → (r ≡ written_of kind s (length out₁) start) × (out₂ ≡ output_of kind s out₁ start)
-    → (r ≡ written_of kind s (length out) start) × (out₂ ≡ output_of kind s out start)
-written_after kind s start {r} {out} {out₁} {out₂} e f =
-    subst (λ (x : List ℕ). (r ≡ written_of kind s (length x) start) × (out₂ ≡ output_of kind s x start)) e f

@@ -3,8 +3,7 @@
 -- Assumes nothing.
 use Rattle.std.specs.Prelude.{◌≡◌, ℕ, ◌+◌, ◌*◌, ◌<◌, ◌≤◌, Bool, true, false, Option, Some, None, List, [], ◌∷◌, ◌++◌, length, take, drop, slice_index, slice_set}
 use Rattle.bits.specs.Bits.{bits_of}
-use Rattle.writing.specs.declared.Pass.{Pass}
-use Rattle.writing.specs.declared.Pass.TheVariants.{Judge, Lay}
+use Rattle.writing.specs.Pass.{Pass, Judge, Lay}
 use Rattle.layout.specs.Row.{Row, all}
 use Rattle.layout.specs.Frame.{places, head_bits}
 use Rattle.layout.specs.Write.{Laid, held, lay, good, good_but_group, vals, emit}
@@ -17,15 +16,25 @@ abbrev pub most_bits : ℕ
 most_bits = head_bits + 32 * places
 
 -- ---- what the two walks do
+-- what a walk holds: the lent bytes, and the name of their borrow; the walk that judges holds none
+pub record Lent : Type 0 where
+  pub bytes : List ℕ
+  pub borrow : ℕ
+
+-- as many bytes, under the same borrow
+pub record Stays (out out' : Lent) : Type 0 where
+  pub size : length out'.bytes ≡ length out.bytes
+  pub same : out'.borrow ≡ out.borrow
+
 -- bytes out' are out with new bits from the bit `at` on, where there is room for them
 pub record Over (out out' : List ℕ) (at : ℕ) (new : List Bool) : Type 0 where
   pub size : length out' ≡ length out
   pub bits : at + length new ≤ 8 * length out → bits_of out' ≡ take at (bits_of out) ++ (new ++ drop (at + length new) (bits_of out))
 
--- the walk that lays puts the rows' bits over those of the bytes, where every value has a code; the walk that judges lays nothing (`keeps` below)
-abbrev pub Does : Pass → List Laid → ℕ → List ℕ → List ℕ → Type 0
+-- the walk that lays puts the rows' bits over those of the bytes, where every value has a code
+abbrev pub Does : Pass → List Laid → ℕ → Lent → Lent → Type 0
 Does Judge laid at out out' = Unit {0}
-Does Lay laid at out out' = all good laid ≡ true → Over out out' at (emit laid)
+Does Lay laid at out out' = all good laid ≡ true → Over out.bytes out'.bytes at (emit laid)
 
 -- what holds of the walk that judges alone
 abbrev pub Finds : Pass → Type 0 → Type 0
@@ -34,7 +43,7 @@ Finds Lay what = Unit {0}
 
 -- ---- rows that are passed
 -- rows laid out, which begin at the place p and the bit `at`: the bit after them, the cleaned record with their values, the bytes
-pub record Lies (pass : Pass) (laid : List Laid) (n at at' p : ℕ) (vs vs' out out' : List ℕ) : Type 0 where
+pub record Lies (pass : Pass) (laid : List Laid) (n at at' p : ℕ) (vs vs' : List ℕ) (out out' : Lent) : Type 0 where
   pub on : at' ≡ at + length (emit laid)
   pub front : take (p + n) vs' ≡ take p vs ++ vals laid
   pub before : take p vs' ≡ take p vs
@@ -42,12 +51,12 @@ pub record Lies (pass : Pass) (laid : List Laid) (n at at' p : ℕ) (vs vs' out 
   pub does : Does pass laid at out out'
 
 -- how the passing of rows ends
-abbrev pub Ends : Pass → List Laid → ℕ → ℕ → ℕ → List ℕ → List ℕ → List ℕ → List ℕ → Option ℕ → Type 0
+abbrev pub Ends : Pass → List Laid → ℕ → ℕ → ℕ → List ℕ → List ℕ → Lent → Lent → Option ℕ → Type 0
 Ends pass laid n at p vs vs' out out' (Some at') = Lies pass laid n at at' p vs vs' out out' × Finds pass (all good laid ≡ true)
 Ends pass laid n at p vs vs' out out' None = all good_but_group laid ≡ false
 
 -- rows that begin at the place p, passed with the values s from there on, after the cleaned record vs
-pub record Lays (pass : Pass) (rows : List Row) (s : List ℕ) (at p : ℕ) (vs vs' out out' : List ℕ) (r : Option ℕ) : Type 0 where
+pub record Lays (pass : Pass) (rows : List Row) (s : List ℕ) (at p : ℕ) (vs vs' : List ℕ) (out out' : Lent) (r : Option ℕ) : Type 0 where
   pub size : length vs' ≡ length vs
   pub ends : Ends pass (lay rows (take p vs) (drop p s)) (length rows) at p vs vs' out out' r
 
@@ -63,9 +72,8 @@ pub record Ready (at p n : ℕ) : Type 0 where
   pub low : at ≤ 32 * p + head_bits
 
 -- a field's value, wherever it stands
-pub record Passes (pass : Pass) (f : Field) (v at : ℕ) (out out' : List ℕ) (r : Option ℕ) : Type 0 where
-  pub size : length out' ≡ length out
-  pub keeps : Finds pass (out' ≡ out)
+pub record Passes (pass : Pass) (f : Field) (v at : ℕ) (out out' : Lent) (r : Option ℕ) : Type 0 where
+  pub lent : Stays out out'
   pub within : Within r (at + 32)
   pub lays : (s vs : List ℕ) (p : ℕ) → p < length vs → v ≡ held (row_for f []) (slice_index s p) → Lays pass (row_for f [] ∷ []) s at p vs (slice_set vs p v) out out' r
 
@@ -76,8 +84,7 @@ Any vs = Unit {0}
 abbrev pub Known : List ℕ → ℕ → List ℕ → Type 0
 Known s q vs = slice_index vs q ≡ slice_index s q
 
-pub record Writes (pass : Pass) (known : List ℕ → Type 0) (rows : List Row) (s : List ℕ) (at p : ℕ) (out out' : List ℕ) (r : Option ℕ) : Type 0 where
-  pub size : length out' ≡ length out
-  pub keeps : Finds pass (out' ≡ out)
+pub record Writes (pass : Pass) (known : List ℕ → Type 0) (rows : List Row) (s : List ℕ) (at p : ℕ) (out out' : Lent) (r : Option ℕ) : Type 0 where
+  pub lent : Stays out out'
   pub within : Within r (at + 32 * length rows)
   pub lays : (vs : List ℕ) → length vs ≡ places → Clear vs p → known vs → (vs' : List ℕ) × Lays pass rows s at p vs vs' out out' r

@@ -1,4 +1,5 @@
 -- What the writer's parts promise.
+pub mod Pass
 pub mod Lay
 pub mod Found
 pub mod Whole

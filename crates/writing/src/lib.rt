@@ -3,6 +3,7 @@
 // Writing a frame: one walk over the record judges and counts, and lays nothing; a second lays the bits into the lent bytes, and judges nothing.
 mod elements;
 mod items;
+mod walks;
 
 ghost use Rattle.std.specs.Prelude.{◌≡◌, ◌-◌, ◌*◌, ◌≤◌, T, Ok, ◌++◌, length, drop};
 ghost use Rattle.bits.specs.Bits.{bytes_for, bytes_of};
@@ -16,28 +17,7 @@ use elements::walk_elements;
 use layout::{Kind, PLACES};
 use refusal::Refusal;
 use table::lines::{ACTION_TYPE_BITS, SS_TYPE, SS_TYPE_BITS, action_type};
-
-// The two walks over a record.
-#[derive(Clone, Copy)]
-pub enum Pass {
-    Judge,
-    Lay,
-}
-
-// What the passing of an element finds: it holds nothing, or something, and the walk goes on at the next bit; or it is the group that is missing.
-#[derive(Clone, Copy)]
-pub enum Passed {
-    Empty(usize),
-    Held(usize),
-    NoGroup,
-}
-
-// The walk that judges and counts. It lays nothing: `out` is as it was.
-fn walk(kind: Kind, values: &[u32; PLACES], out: &mut [u8]) -> Result<usize, Refusal>
-    ensures { (result ≡ measured_of kind values.now) × (out.new ≡ out.old) }
-{
-    walk_elements(Pass::Judge, kind, values, out)
-}
+use walks::{Judge, Lay};
 
 // A whole frame that is known to be writable: the head, then the elements.
 fn lay_frame(kind: Kind, values: &[u32; PLACES], out: &mut [u8])
@@ -46,7 +26,8 @@ fn lay_frame(kind: Kind, values: &[u32; PLACES], out: &mut [u8])
 {
     put_field(out, 0, SS_TYPE_BITS, SS_TYPE);
     put_field(out, SS_TYPE_BITS, ACTION_TYPE_BITS, action_type(kind));
-    let _ = walk_elements(Pass::Lay, kind, values, out);
+    let mut lay = Lay { out };
+    let _ = walk_elements(&mut lay, kind, values);
 }
 
 // The spare bits of the last byte, as 0.
@@ -89,7 +70,7 @@ fn write_part(
 pub fn judge_record(kind: Kind, values: &[u32; PLACES]) -> Result<(), Refusal>
     ensures { result ≡ spec.judged_of kind values.now }
 {
-    walk(kind, values, &mut [0u8; 1])?;
+    measure_record(kind, values)?;
     Ok(())
 }
 
@@ -97,7 +78,7 @@ pub fn judge_record(kind: Kind, values: &[u32; PLACES]) -> Result<(), Refusal>
 pub fn measure_record(kind: Kind, values: &[u32; PLACES]) -> Result<usize, Refusal>
     ensures { result ≡ measured_of kind values.now }
 {
-    walk(kind, values, &mut [0u8; 1])
+    walk_elements(&mut Judge, kind, values)
 }
 
 // Writes a record, or refuses it and leaves `out` as it is.
@@ -110,6 +91,6 @@ pub fn write_record(
     ensures { (result ≡ spec.written_of kind values.now (length out.old) start)
         × (out.new ≡ spec.output_of kind values.now out.old start) }
 {
-    let bits = walk(kind, values, out)?;
+    let bits = measure_record(kind, values)?;
     write_part(kind, values, out, start, bits)
 }

@@ -5,12 +5,12 @@ use Rattle.writing.proofs.LayShapes.{element-puts, element-off}
 use Rattle.writing.proofs.elements.walk_element.Goals as goal
 
 pub returns-then-there : goal.returns-then-there
-returns-then-there c =
-    element-puts c.args.pass c.args.line c.args.values.now c.args.last c.args.at c.args.place _ c.shape_of.ensures
+returns-then-there g c =
+    element-puts g.W.Walk.pass c.args.element c.args.values.now c.args.last c.args.at c.args.place
     (sym c.there.ensures ∙ c.if-there.true) c.walk_shape.ensures
 
 pub returns-else-there : goal.returns-else-there
-returns-else-there c =
+returns-else-there g c =
     let a = c.args in
-    element-off a.pass a.line a.values.now a.last a.at a.place a.out.now (sym c.there.ensures ∙ c.if-there.false)
+    element-off g.W.Walk.pass a.element a.values.now a.last a.at a.place (g.W.Walk.lent a.walk.now) (sym c.there.ensures ∙ c.if-there.false)
     c.requires.0.room

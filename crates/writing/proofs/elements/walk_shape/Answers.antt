@@ -11,64 +11,64 @@ use Rattle.writing.proofs.FoundShapes.{number-found, choice-found, identity-foun
 use Rattle.writing.proofs.elements.walk_shape.Goals as goal
 
 pub bounds-values-place : goal.bounds-values-place
-bounds-values-place c = first-inside c.args.shape c.requires.0
+bounds-values-place g c = first-inside c.args.shape c.requires.0
 
-pub walk_field-requires : goal.walk_field-requires
-walk_field-requires c =
+pub field-requires : goal.field-requires
+field-requires g c =
     let fit = sound-number c.args.shape c.args.place _ c.in-Number.is c.requires.1 in
     (subst Narrow (sym c.number.ensures) (number-narrow _ fit.0 fit.1), ready-most c.requires.0)
 
-pub walk_field-requires-in-Choice : goal.walk_field-requires-in-Choice
-walk_field-requires-in-Choice c =
+pub field-requires-in-Choice : goal.field-requires-in-Choice
+field-requires-in-Choice g c =
     let fit = sound-choice c.args.shape c.args.place _ _ c.in-Choice.is c.requires.1 in
     (subst Narrow (sym c.choice.ensures) (choice-narrow _ fit.0 fit.1 _ (omega arith)), ready-most c.requires.0)
 
 pub walk_identity-requires : goal.walk_identity-requires
 unfolding span
-walk_identity-requires c = ready-few 4 c.requires.0 (omega (arith, ap span c.in-Identity.is))
+walk_identity-requires g c = ready-few 4 c.requires.0 (omega (arith, ap span c.in-Identity.is))
 
 pub walk_list-requires : goal.walk_list-requires
-walk_list-requires c =
+walk_list-requires g c =
     ready-few _ c.requires.0 (omega (arith, list-room c.args.shape _ c.in-List.is))
 
 pub returns-in-Number : goal.returns-in-Number
-returns-in-Number c =
+returns-in-Number g c =
     let a = c.args in
-    number-found a.pass a.values.now a.last a.at a.place a.shape (first-inside a.shape c.requires.0) _
-    c.in-Number.is c.requires.1 c.number.ensures c.walk_field.ensures c.found.ensures
+    number-found g.W.Walk.pass a.values.now a.last a.at a.place a.shape (first-inside a.shape c.requires.0) _
+    c.in-Number.is c.requires.1 c.number.ensures c.field.ensures c.found.ensures
 
 pub returns-in-Choice : goal.returns-in-Choice
-returns-in-Choice c =
+returns-in-Choice g c =
     let a = c.args in
-    choice-found a.pass a.values.now a.last a.at a.place a.shape (first-inside a.shape c.requires.0) _ _
-    c.in-Choice.is c.choice.ensures c.walk_field-in-Choice.ensures c.found-in-Choice.ensures
+    choice-found g.W.Walk.pass a.values.now a.last a.at a.place a.shape (first-inside a.shape c.requires.0) _ _
+    c.in-Choice.is c.choice.ensures c.field-in-Choice.ensures c.found-in-Choice.ensures
 
 pub returns-in-Identity : goal.returns-in-Identity
-returns-in-Identity c =
+returns-in-Identity g c =
     let a = c.args in
-    identity-found a.pass a.values.now a.last a.at a.place a.shape (first-inside a.shape c.requires.0)
+    identity-found g.W.Walk.pass a.values.now a.last a.at a.place a.shape (first-inside a.shape c.requires.0)
     c.in-Identity.is c.walk_identity.ensures c.found-in-Identity.ensures
 
 pub returns-in-List : goal.returns-in-List
-returns-in-List c =
+returns-in-List g c =
     let a = c.args in
-    list-found a.pass a.values.now a.last a.at a.place a.shape (first-inside a.shape c.requires.0) _
+    list-found g.W.Walk.pass a.values.now a.last a.at a.place a.shape (first-inside a.shape c.requires.0) _
     c.in-List.is c.walk_list.ensures c.found-in-List.ensures
 
 pub returns-in-Ending : goal.returns-in-Ending
-returns-in-Ending c =
+returns-in-Ending g c =
     let a = c.args in
-    ending-found a.pass a.values.now a.last a.at a.place a.shape (first-inside a.shape c.requires.0)
-    c.in-Ending.is c.walk_field-in-Ending.ensures c.found-in-Ending.ensures
+    ending-found g.W.Walk.pass a.values.now a.last a.at a.place a.shape (first-inside a.shape c.requires.0)
+    c.in-Ending.is c.field-in-Ending.ensures c.found-in-Ending.ensures
 
 pub returns-in-Missing : goal.returns-in-Missing
-returns-in-Missing c =
+returns-in-Missing g c =
     let a = c.args in
-    missing-found a.pass a.values.now a.last a.at a.place a.shape
+    missing-found g.W.Walk.pass a.values.now a.last a.at a.place a.shape
     (first-inside a.shape c.requires.0) _ _ c.in-Missing.is c.requires.1 c.holds.ensures c.barred.ensures
 
 pub returns-in-Nothing : goal.returns-in-Nothing
-returns-in-Nothing c =
+returns-in-Nothing g c =
     let a = c.args in
-    nothing-found a.pass a.values.now a.last a.at a.place a.shape
+    nothing-found g.W.Walk.pass a.values.now a.last a.at a.place a.shape
     (first-inside a.shape c.requires.0) _ _ c.in-Nothing.is refl c.barred-in-Nothing.ensures

@@ -8,6 +8,6 @@ use Rattle.writing.proofs.Parts.{field-writes}
 use Rattle.writing.proofs.items.walk_item.Goals as goal
 
 pub returns-in-Letters : goal.returns-in-Letters
-returns-in-Letters c =
+returns-in-Letters g c =
     let inside : c.args.place < places = omega (arith, c.requires.room, ap stride c.in-Letters.is) in
-    rw c.in-Letters.is (field-writes c.walk_field.ensures inside refl Any)
+    rw c.in-Letters.is (field-writes c.field.ensures inside refl Any)

@@ -4,4 +4,4 @@ use Rattle.writing.proofs.LayLists.{Listed}
 use Rattle.writing.proofs.items.walk_items.Given as goal
 
 abbrev pub invariant-loop-i : goal.invariant-loop-i
-invariant-loop-i l = Listed l.pass l.items l.values l.from l.count l.initial.out l.out l.at l.place l.i
+invariant-loop-i g l = Listed g.W.Walk.pass l.items l.values l.from l.count (g.W.Walk.lent l.initial.walk) (g.W.Walk.lent l.walk) l.at l.place l.i
