@@ -12,13 +12,12 @@ use denote.Triple.Clauses.{AtExit}
 use borrow.Author.Tests.{le-ltb}
 use lib.Dec.{T}
 use lib.ListN.{length, take, drop}
+use Rattle.std.specs.Prelude.{Result, Ok, Err}
 use Rattle.bits.specs.Bits.{bits_of, bytes_for, bytes_of}
 use Rattle.refusal.specs.declared.Refusal.{Refusal}
 use Rattle.layout.specs.declared.Kind.{Kind}
-use Rattle.layout.specs.declared.Reading.{Reading}
-use Rattle.layout.specs.declared.Verdict.TheVariants.{Frame, Refused}
-use Rattle.layout.specs.declared.Written.{Written}
-use Rattle.layout.specs.declared.Written.TheVariants.{Bits}
+use Rattle.layout.specs.declared.Record.{Record}
+use Rattle.layout.specs.declared.Refused.{Refused}
 use Rattle.layout.specs.Read as answer
 use Rattle.layout.specs.Frame as spec
 use Rattle.layout.specs.Frame.{read_bytes, as_reading, reading_of, clean, valid}
@@ -36,10 +35,10 @@ AfterRead = AtExit (ended_of 1 read-kinds.ps read-kinds.r)
 abbrev AfterWrite : Lfts 2 → Type 0
 AfterWrite = AtExit (ended_of 2 write-kinds.ps write-kinds.r)
 
-module _ (κs : Lfts 2) (λs : Lfts 1) (kind : Kind) (values : Bor (List ℕ)) (out : MutBor (List ℕ)) (frame : Bor (List ℕ)) (start count : ℕ) (reading : Reading)
+module _ (κs : Lfts 2) (λs : Lfts 1) (kind : Kind) (values : Bor (List ℕ)) (out : MutBor (List ℕ)) (frame : Bor (List ℕ)) (start count : ℕ) (reading : Result Record Refused)
     (left : AfterWrite κs) (after : AfterRead λs) where
   -- what `write` made, `read` returns: the record, with 0 at the places that are not used
-  pub made-then-read : write.Post κs (kind, (values, (out, (start, tt)))) (Bits count) left
+  pub made-then-read : write.Post κs (kind, (values, (out, (start, tt)))) (Ok count) left
       → frame.now ≡ drop start left.1.1.0.now
       → read.Post λs (kind, (frame, (count, tt))) reading after
       → reading ≡ read_as (clean kind values.now)
@@ -48,23 +47,22 @@ module _ (κs : Lfts 2) (λs : Lfts 1) (kind : Kind) (values : Bor (List ℕ)) (
       ∙ write-then-read kind values.now out.now start count (sym w.0)
 
   -- what `read` took, `write` makes again where there is room: the same bits, and 0 in the spare bits of the last byte
-  pub taken-then-written : (written : Written) → read.Post λs (kind, (frame, (count, tt))) reading after
-      → reading.verdict ≡ Frame
-      → values.now ≡ reading.values.place
+  pub taken-then-written : (written : Result ℕ Refusal) (taken : Record) → read.Post λs (kind, (frame, (count, tt))) reading after
+      → reading ≡ Ok taken
+      → values.now ≡ taken.place
       → write.Post κs (kind, (values, (out, (start, tt)))) written left
       → start + bytes_for count ≤ length out.now
-      → (written ≡ Bits count)
+      → (written ≡ Ok count)
       × (left.1.1.0.now ≡ take start out.now ++ (bytes_of (take count (bits_of frame.now)) ++ drop (start + bytes_for count) out.now))
-  taken-then-written written r taken same w fit =
-      let found : (reading_of kind frame.now count).verdict ≡ Frame = ap (λ (x : Reading). x.verdict) (sym r) ∙ taken in
-      let again : MadeAgain kind frame.now count values.now = rw (same, r) (read-then-write kind frame.now count found) in
+  taken-then-written written taken r found same w fit =
+      let again : MadeAgain kind frame.now count values.now = rw same (read-then-write kind frame.now count taken (sym r ∙ found)) in
       (w.0 ∙ again.told out.now start fit, w.1 ∙ again.made out.now start fit)
 
   -- a record that has a frame, with room for it, is written, with its length: a writer that refuses everything is none
-  pub valid-is-written : (written : Written) → T (valid kind values.now)
+  pub valid-is-written : (written : Result ℕ Refusal) → T (valid kind values.now)
       → start + bytes_for (length (spec.write kind values.now)) ≤ length out.now
       → write.Post κs (kind, (values, (out, (start, tt)))) written left
-      → written ≡ Bits (length (spec.write kind values.now))
+      → written ≡ Ok (length (spec.write kind values.now))
   valid-is-written written good fit w =
       let n = length (spec.write kind values.now) in
       w.0 ∙ write-fits kind values.now n (valid-judged kind values.now good) refl (length out.now) start fit
@@ -77,10 +75,10 @@ module _ (κs : Lfts 2) (λs : Lfts 1) (kind : Kind) (values : Bor (List ℕ)) (
   frame-is-taken s enough e r = r ∙ rw (le-ltb (8 * length frame.now) count enough, e)
 
 -- where a frame is bad: `read` refuses with this number and this bit exactly where P2 says so of the lent bits
-module _ (λs : Lfts 1) (kind : Kind) (frame : Bor (List ℕ)) (count : ℕ) (reading : Reading) (after : AfterRead λs)
+module _ (λs : Lfts 1) (kind : Kind) (frame : Bor (List ℕ)) (count : ℕ) (reading : Result Record Refused) (after : AfterRead λs)
     (r : read.Post λs (kind, (frame, (count, tt))) reading after) (n : Refusal) (at : ℕ) where
-  pub refused-where : reading.verdict ≡ Refused n at → RefusedIn kind frame.now count n at
-  refused-where e = refused-in kind frame.now count n at (ap (λ (x : Reading). x.verdict) (sym r) ∙ e)
+  pub refused-where : reading ≡ Err (record { refusal = n; bit = at }) → RefusedIn kind frame.now count n at
+  refused-where e = refused-in kind frame.now count n at (sym r ∙ e)
 
-  pub where-refused : RefusedIn kind frame.now count n at → reading.verdict ≡ Refused n at
-  where-refused bad = ap (λ (x : Reading). x.verdict) r ∙ in-refused kind frame.now count n at bad
+  pub where-refused : RefusedIn kind frame.now count n at → reading ≡ Err (record { refusal = n; bit = at })
+  where-refused bad = r ∙ in-refused kind frame.now count n at bad
