@@ -1,12 +1,11 @@
 -- The reader's loop over a table's elements: the rest, read from where it stands, is what the whole is read as.
 -- Assumes nothing.
 use Prim.Native.Nat.{ℕ, suc, ◌+◌, ◌-◌, ◌*◌, ◌≤◌, ◌<◌}
-use mathlib.Core.Path.{◌≡◌, refl, ap, ap₂, sym, ◌∙◌, subst}
+use mathlib.Core.Path.{◌≡◌, refl, ap, ap₂, sym, ◌∙◌}
 use mathlib.Core.Bool.{Bool, false}
 use mathlib.Core.List.{List, [], ◌∷◌, ◌++◌}
 use native.Mathlib.Omega.{arith}
 use borrow.Author.Tests.{lt-ltb, le-ltb}
-use lib.Dec.{T}
 use lib.ListN.{length, take, drop, get_or, replicate, length-drop, take-append-drop, drop_of_length-le}
 use lib.Seq.{drop-cons, get_or-drop, length-take-le}
 use Rattle.refusal.specs.declared.Refusal.TheVariants.{EndsInside, BitsRemain, WrongKind}
@@ -17,27 +16,23 @@ use Rattle.layout.specs.declared.Refused.{Refused}
 use Rattle.std.specs.Prelude.{Result, Ok, Err}
 use Rattle.layout.specs.Row.{Row}
 use Rattle.layout.specs.Read.{frame, refused, read_rows}
-use Rattle.layout.specs.Shape.{rows_of, span, unrolled}
+use Rattle.layout.specs.Shape.{conditions_of, rows_of, span, unrolled}
 use Rattle.layout.specs.Kinds.{table_of, ss_type, action_type}
 use Rattle.layout.specs.Frame.{places, rows, read, read_bytes, as_reading, reading_of}
 use Rattle.layout.specs.Where.{ss_type_cut, action_type_cut, ss_type_wrong, action_type_wrong, one, three}
 use Rattle.layout.proofs.Frames.{read_head, head-drop}
 use Rattle.layout.proofs.WhereExact.{so-refused}
-use Rattle.table.specs.Coding.{hang_of, shape_of, places_of}
-use Rattle.table.specs.Lines.{first_line, past, line_number}
-use Rattle.table.specs.Sound.{Clear, sound}
+use Rattle.table.specs.Sound.{Clear}
 use Rattle.reading.specs.Reads.{whole, onward, Reads}
 use Rattle.reading.proofs.ReadLaws.{reading, whole_length}
 use Rattle.table.proofs.Absent.{length-shape}
 use Rattle.table.proofs.Walks.{clear_none, clear-after}
-use Rattle.table.proofs.TableLaws.{Said, said, Own, Placed, placed-none, line-room, line-sound, line-span, line-rows, line-more}
+use Rattle.table.proofs.TableLaws.{Placed, placed-none, element-rows, element-more}
 
--- the line k of the kind is the next: so many elements are passed
+-- the element k of the kind is the next
 pub record Going (kind : Kind) (bits : List Bool) (from : ℕ) (vs : List ℕ) (at p k : ℕ) : Type 0 where
-  pub passed : ℕ
-  pub here : k ≡ first_line kind + passed
-  pub same : read_rows (rows kind) [] from (drop from bits) ≡ read_rows (unrolled (drop passed (table_of kind)) p) (take p vs) at (drop at bits)
-  pub placed : Placed (table_of kind) p passed
+  pub same : read_rows (rows kind) [] from (drop from bits) ≡ read_rows (unrolled (drop k (table_of kind)) p) (take p vs) at (drop at bits)
+  pub placed : Placed (table_of kind) p k
   pub clear : Clear vs p
   pub size : length vs ≡ places
 
@@ -45,69 +40,48 @@ all-zero : (l : List ℕ) → ((q : ℕ) → get_or l q 0 ≡ 0) → l ≡ repli
 all-zero [] z = refl
 all-zero (x ∷ l) z = ap₂ ◌∷◌ (z 0) (all-zero l (λ q. z (suc q)))
 
-pub going-none : (kind : Kind) (begin end : ℕ) (bits : List Bool) (from : ℕ) → Own kind begin end → Going kind bits from (replicate places 0) from 0 begin
+pub going-none : (kind : Kind) (bits : List Bool) (from : ℕ) → Going kind bits from (replicate places 0) from 0 0
 unfolding rows
-going-none kind begin end bits from own =
-    record { passed = 0; here = omega arith; same = refl; placed = placed-none kind; clear = clear_none places 0; size = refl }
+going-none kind bits from = record { same = refl; placed = placed-none kind; clear = clear_none places 0; size = refl }
 
-module _ {kind : Kind} {begin end : ℕ} (own : Own kind begin end) {bits : List Bool} {from : ℕ} {vs : List ℕ} {at p k : ℕ}
-    (now : Going kind bits from vs at p k) where
-  -- ---- a turn: the line k, by its number
-  module _ {n : ℕ} (less : k < end) (is : n ≡ line_number k) where
-    inside : now.passed < length (table_of kind)
-    inside = omega (arith, now.here, own.ends)
+module _ {kind : Kind} {bits : List Bool} {from : ℕ} {vs : List ℕ} {at p k : ℕ} (now : Going kind bits from vs at p k) where
+  -- ---- a turn: the element k, by what its reading finds
+  module _ (d : Element) (inside : k < length (table_of kind)) {vs' : List ℕ} {s : Result ℕ Refused}
+      (f : Reads (rows_of (get_or (table_of kind) k d).1 (conditions_of (get_or (table_of kind) k d).0) p) bits at p vs vs' s) where
+    abbrev e : Element
+    e = get_or (table_of kind) k d
 
-    says : Said n (get_or (table_of kind) now.passed past)
-    says = said kind k now.passed n now.here inside is
+    rest : List Row
+    rest = unrolled (drop (k + 1) (table_of kind)) (p + span e.1)
 
-    pub turn-room : p + span (shape_of n) ≤ places
-    turn-room = line-room now.placed inside says
+    on : read_rows (rows kind) [] from (drop from bits) ≡ onward rest bits (take (p + length (rows_of e.1 (conditions_of e.0) p)) vs') s
+    unfolding rest
+    on =
+        now.same
+        ∙ ap (λ (l : List Row). read_rows l (take p vs) at (drop at bits)) (element-rows d now.placed inside)
+        ∙ f.same rest
 
-    pub turn-sound : T (sound (shape_of n) p)
-    turn-sound = line-sound now.placed inside says
+    pub turn-next : {at' : ℕ} → s ≡ Ok at' → Going kind bits from vs' at' (p + span e.1) (k + 1)
+    unfolding rest
+    turn-next {at'} t =
+        let size : length (rows_of e.1 (conditions_of e.0) p) ≡ span e.1 = length-shape e.1 (conditions_of e.0) p in
+        record {
+          same = on ∙ ap (onward rest bits _) t ∙ ap (λ (m : ℕ). read_rows rest (take (p + m) vs') at' (drop at' bits)) size;
+          placed = element-more d now.placed inside;
+          clear = λ q h. clear-after (reading bits) (rows_of e.1 (conditions_of e.0) p) at at' p vs vs' s t f now.clear q (omega arith);
+          size = f.size ∙ now.size;
+        }
 
-    -- the places that it takes
-    pub turn-span : places_of n ≡ span (shape_of n)
-    turn-span = line-span now.placed inside says
+    pub turn-stop : {r : Refused} → s ≡ Err r → read_rows (rows kind) [] from (drop from bits) ≡ refused r.refusal r.bit
+    turn-stop t = on ∙ ap (onward rest bits _) t
 
-    -- by what its reading finds
-    module _ {vs' : List ℕ} {s : Result ℕ Refused} (f : Reads (rows_of (shape_of n) (hang_of n) p) bits at p vs vs' s) where
-      rest : List Row
-      rest = unrolled (drop (now.passed + 1) (table_of kind)) (p + places_of n)
-
-      on : read_rows (rows kind) [] from (drop from bits) ≡ onward rest bits (take (p + length (rows_of (shape_of n) (hang_of n) p)) vs') s
-      unfolding rest
-      on =
-          now.same
-          ∙ ap (λ (l : List Row). read_rows l (take p vs) at (drop at bits)) (line-rows now.placed inside says)
-          ∙ f.same rest
-
-      pub turn-next : {w at' : ℕ} → w ≡ places_of n → s ≡ Ok at' → Going kind bits from vs' at' (p + w) (k + 1)
-      unfolding rest
-      turn-next {w} {at'} d t =
-          let size : length (rows_of (shape_of n) (hang_of n) p) ≡ w = length-shape (shape_of n) (hang_of n) p ∙ sym turn-span ∙ sym d in
-          let left : List Element = drop (now.passed + 1) (table_of kind) in
-          record {
-            passed = now.passed + 1;
-            here = omega (arith, now.here);
-            same = on ∙ ap (onward rest bits _) t
-                ∙ ap₂ (λ (m q : ℕ). read_rows (unrolled left (p + m)) (take (p + q) vs') at' (drop at' bits)) (sym d) size;
-            placed = subst (λ (m : ℕ). Placed (table_of kind) (p + m) (now.passed + 1)) (sym d) (line-more now.placed inside says);
-            clear = λ q h. clear-after (reading bits) (rows_of (shape_of n) (hang_of n) p) at at' p vs vs' s t f now.clear q (omega arith);
-            size = f.size ∙ now.size;
-          }
-
-      pub turn-stop : {r : Refused} → s ≡ Err r → read_rows (rows kind) [] from (drop from bits) ≡ refused r.refusal r.bit
-      turn-stop t = on ∙ ap (onward rest bits _) t
-
-  -- ---- after the last line
-  module _ (over : end ≤ k) where
+  -- ---- after the last element
+  module _ (over : length (table_of kind) ≤ k) where
     last : read_rows (rows kind) [] from (drop from bits) ≡ read_rows [] (take p vs) at (drop at bits)
     unfolding unrolled
     last =
         now.same
-        ∙ ap (λ (l : List Element). read_rows (unrolled l p) (take p vs) at (drop at bits))
-        (drop_of_length-le (table_of kind) {i = now.passed} (omega (arith, now.here, own.ends)))
+        ∙ ap (λ (l : List Element). read_rows (unrolled l p) (take p vs) at (drop at bits)) (drop_of_length-le (table_of kind) {i = k} over)
 
     pub going-over : at < length bits → read_rows (rows kind) [] from (drop from bits) ≡ refused BitsRemain at
     unfolding read_rows

@@ -1,11 +1,11 @@
 // Reading a table's elements, one after the other. An element that is not there costs one test.
 use crate::parts::{Filling, Frame, refused};
-use layout::{Kind, PLACES, Record, Refused, Shape};
+use layout::{Element, Kind, PLACES, Record, Refused, Shape};
 use refusal::Refusal;
-use table::coding::{IF_NO, places_of, shape_of, there};
 use table::fields::{M_BIT, choice, number};
-use table::lines::{end_line, first_line, line};
-use table::tests::{holds, nothing_since};
+use table::items::places_of;
+use table::lines::table_of;
+use table::tests::{IF_NO, holds, nothing_since, there};
 
 impl Filling {
     ghost use Rattle.std.specs.Prelude.{◌≡◌, ◌+◌, ◌<◌, OnOk};
@@ -29,8 +29,7 @@ impl<'a> Frame<'a> {
     ghost use Rattle.std.specs.Prelude.{◌≡◌, [], ◌+◌, ◌≤◌, T, drop};
     ghost use Rattle.layout.specs.Frame.{rows, as_reading};
     ghost use Rattle.layout.specs.Read.{read_rows};
-    ghost use Rattle.layout.specs.Shape.{rows_of, span};
-    ghost use Rattle.table.specs.Coding.{hang_of, shape_of, places_of};
+    ghost use Rattle.layout.specs.Shape.{conditions_of, rows_of, span};
     ghost use Rattle.table.specs.Sound.{sound};
     ghost use Rattle.reading.specs.Reads.{bits_in, Fills};
 
@@ -56,17 +55,17 @@ impl<'a> Frame<'a> {
         }
     }
 
-    // An element by its line: its rows if it is there, else nothing.
-    fn element(self, at: usize, into: &mut Filling, line: u64) -> Result<usize, Refused>
-        requires { (into.old.place + span (shape_of line) ≤ PLACES) × T (sound (shape_of line) into.old.place)
-            × (places_of line ≡ span (shape_of line)) }
-        ensures { Fills (rows_of (shape_of line) (hang_of line) into.old.place) (bits_in self.entry) at
+    // An element: its rows if it is there, else nothing.
+    fn element(self, at: usize, into: &mut Filling, element: Element) -> Result<usize, Refused>
+        requires { (into.old.place + span element.1 ≤ PLACES) × T (sound element.1 into.old.place) }
+        ensures { Fills (rows_of element.1 (conditions_of element.0) into.old.place) (bits_in self.entry) at
             into.old into.new result }
     {
-        if there(&into.values, line) {
-            self.shape(at, into, shape_of(line))
+        let Element(when, shape) = element;
+        if there(&into.values, when) {
+            self.shape(at, into, shape)
         } else {
-            into.skip(places_of(line));
+            into.skip(places_of(shape));
             Ok(at)
         }
     }
@@ -77,8 +76,8 @@ impl<'a> Frame<'a> {
     {
         let mut into = Filling::new();
         let mut at = from;
-        for k in first_line(kind)..end_line(kind) {
-            at = self.element(at, &mut into, line(k))?;
+        for element in table_of(kind) {
+            at = self.element(at, &mut into, *element)?;
         }
         if at < self.bits {
             return Err(refused(Refusal::BitsRemain, at));

@@ -4,5 +4,5 @@ use Rattle.reading.specs.Reads.{bits_in}
 use Rattle.reading.proofs.Going.{Going}
 use Rattle.reading.proofs.parts.Frame.elements.Given as goal
 
-abbrev pub invariant-loop-k : goal.invariant-loop-k
-invariant-loop-k l = Going l.fn.kind (bits_in l.self) l.from l.into.values l.at l.into.place l.k
+abbrev pub invariant-loop-element : goal.invariant-loop-element
+invariant-loop-element l = Going l.fn.kind (bits_in l.self) l.from l.into.values l.at l.into.place l.element-index
