@@ -30,8 +30,7 @@ use Rattle.order.specs.declared.Itsi.{Itsi}
 use Rattle.order.specs.Walks.{onto}
 use Rattle.store.specs.Places.{found_of, place_of}
 use Rattle.store.specs.Lists.{Fills}
-use Rattle.store.specs.declared.Place.{Place}
-use Rattle.store.specs.declared.Place.TheVariants.{At, Free}
+use Rattle.std.specs.Prelude.{Result, Ok, Err}
 use Rattle.store.specs.Storage.{Contents, contents, groups_of, pair_of, pair_row, pairs_of, group_count, pair_count, placing, ledger_of, laid}
 use Rattle.store.specs.Form.{Sound}
 use Rattle.store.proofs.FormLaws.{Room, pairs-rise}
@@ -76,17 +75,17 @@ pair_named radio group = (key (group_number group), key (radio_number radio))
 
 module _ (c : Contents) (w : Sound c) where
   -- what the place of a pair says of the rows
-  pub pair-in-rows : (p : Place) (k : Pair) → p ≡ place_of below_pair same_pair (pairs_of (pair_count c) c.pairs) k
+  pub pair-in-rows : (p : Result ℕ ℕ) (k : Pair) → p ≡ place_of below_pair same_pair (pairs_of (pair_count c) c.pairs) k
       → InRows pairs-linear pair_of c.pairs (pair_count c) (omega (arith, w.pairs, w.few_pairs)) (pairs-rise c w) p k
   pair-in-rows = in_rows pairs-linear pair_of c.pairs (pair_count c) (omega (arith, w.pairs, w.few_pairs)) (pairs-rise c w)
 
   -- the pair at its place is the one that an answer turns
-  answered-one : (k : Pair) (left : Option Mark) (i : ℕ) → At i ≡ place_of below_pair same_pair (pairs_of (pair_count c) c.pairs) k
+  answered-one : (k : Pair) (left : Option Mark) (i : ℕ) → Ok i ≡ place_of below_pair same_pair (pairs_of (pair_count c) c.pairs) k
       → alter (λ (j : Pair) m. cond (same_pair j k) left (some m)) (pairs_of (pair_count c) c.pairs)
       ≡ settled (pair_of (get_or c.pairs i [])).0 left i (pairs_of (pair_count c) c.pairs)
   answered-one k left i e =
       let l = pairs_of (pair_count c) c.pairs in
-      let s = pair-in-rows (At i) k e in
+      let s = pair-in-rows (Ok i) k e in
       let n = count-pairs c w in
       let x : (j : ℕ) → j < pair_count c → (get_or l j (pair_of [])).0 ≡ (pair_of (get_or c.pairs j [])).0 =
       λ j h. ap (λ (z : Pair × Mark). z.0) (item-at pair_of c.pairs (pair_count c) j h) in
@@ -98,7 +97,7 @@ module _ (c : Contents) (w : Sound c) where
       ∙ rw (x i s.inside, add-one)
 
   pub answered-laid : (radio : Itsi) (group : Gtsi) (kind : AnswerKind) (result i n : ℕ) (rows : List (List ℕ))
-      → At i ≡ place_of below_pair same_pair (pairs_of (pair_count c) c.pairs) (pair_named radio group)
+      → Ok i ≡ place_of below_pair same_pair (pairs_of (pair_count c) c.pairs) (pair_named radio group)
       → Fills pair_row (settled (pair_of (get_or c.pairs i [])).0 (answered kind result) i (pairs_of (pair_count c) c.pairs)) c.pairs rows n
       → contents (set c.head 1 n) c.groups rows ≡ laid (apply placing (ledger_of c) (effect (view (ledger_of c)) (answer_step radio group kind result))) c
   answered-laid radio group kind result i n rows e f =
@@ -108,11 +107,11 @@ module _ (c : Contents) (w : Sound c) where
 
   -- an answer of a pair that is not there is refused
   pub no-pair-refused : {P : Type 0} (radio : Itsi) (group : Gtsi) (kind : AnswerKind) (result i : ℕ)
-      → Free i ≡ place_of below_pair same_pair (pairs_of (pair_count c) c.pairs) (pair_named radio group)
+      → Err i ≡ place_of below_pair same_pair (pairs_of (pair_count c) c.pairs) (pair_named radio group)
       → refused placing (ledger_of c) (answer_step radio group kind result) ≡ none → P
   no-pair-refused radio group kind result i e t =
       let s = answer_step radio group kind result in
       let v = view (ledger_of c) in
       let q = tests-pass (tests v (tally placing (ledger_of c) (effect v s)) s) t 2 in
-      let f = (pair-in-rows (Free i) (pair_named radio group) e).found in
+      let f = (pair-in-rows (Err i) (pair_named radio group) e).found in
       clash (rw f at q)

@@ -1,6 +1,5 @@
 -- Laws of the orders that only reply.
 pub mod Answered
-pub mod Gaps
 pub mod OneEntry
 pub mod OneRow
 pub mod Unique
