@@ -3,6 +3,7 @@ pub mod Walks
 pub mod Copying
 pub mod Moves
 pub mod Sorting
+pub mod Ordered
 pub mod ListLaws
 pub mod KeyLaws
 pub mod RangeLaws

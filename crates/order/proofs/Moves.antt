@@ -1,11 +1,13 @@
 -- Laws of elements moved up, from the last: none moved, a turn, the length, and one stored where the first of them stood.
-use mathlib.Core.Path.{◌≡◌, sym, ◌∙◌}
+use mathlib.Core.Path.{◌≡◌, refl, sym, ap, ◌∙◌}
 use mathlib.Core.List.{List, [], ◌∷◌, ◌++◌, append_assoc}
-use Prim.Native.Nat.{ℕ, ◌+◌, ◌≤◌, ◌<◌}
+use Prim.Native.Nat.{ℕ, ◌+◌, ◌-◌, ◌≤◌, ◌<◌}
 use native.Mathlib.Numerals.{add-one}
 use native.Mathlib.Omega.{arith}
 use lib.ListN.{length, get_or, take, drop, set, take-append-drop, length-append, length-take, length-drop, get_or-append}
 use lib.Seq.{take-suc, get_or-take, length-take-le, set_at, drop-append-le}
+use Rattle.std.specs.List.{copy_within}
+use Rattle.std.proofs.lemmas.List.{drop-take}
 use Rattle.order.specs.Walks.{left, moved}
 use Rattle.order.proofs.Walks.{left-cons, left_end}
 
@@ -36,6 +38,14 @@ module _ {A : Type 0} where
   pub moved-set : (by n i m : ℕ) (l : List A) (x : A) → i + by ≡ m + 1 → m < length l
       → set (moved by i n l) m x ≡ take m l ++ (x ∷ (left i n l ++ drop (n + by) l))
   moved-set by n i m l x e h = rw e (set_last l (left i n l ++ drop (n + by) l) m x h)
+
+  -- what std's copy_within leaves
+  pub moved-within : (by n i : ℕ) (l : List A) → i ≤ n → copy_within l i n (i + by) ≡ moved by i n l
+  moved-within by n i l p =
+      let e : i + (n - i) ≡ n = omega arith in
+      let f : i + by + (n - i) ≡ n + by = omega arith in
+      let g : take (n - i) (drop i l) ≡ left i n l = sym (drop-take i (n - i) l) ∙ ap (λ (m : ℕ). left i m l) e in
+      append_assoc (take (i + by) l) (take (n - i) (drop i l)) (drop (i + by + (n - i)) l) ∙ rw (g, f) refl
 
   -- moved by no place
   pub moved-zero : (n i : ℕ) (l : List A) → i ≤ n → n ≤ length l → moved 0 i n l ≡ l

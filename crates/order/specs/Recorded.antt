@@ -16,8 +16,11 @@ module _ (places : List ℕ) where
   identities_in k (suc n) = identity_in k ∷ identities_in (k + 4) n
 
   -- number type, then ten identities
+  abbrev pub numbers_in : ℕ → Numbers
+  numbers_in k = record { code = code_at places k; identity = identities_in (k + 1) max_listed }
+
   abbrev pub list_at : Bool → ℕ → Option Numbers
-  list_at given k = cond given (Some (record { code = code_at places k; identity = identities_in (k + 1) max_listed })) None
+  list_at given k = cond given (Some (numbers_in k)) None
 
   abbrev pub group_list : Option Numbers
   group_list = list_at (says_yes places group_given) group_numbers

@@ -1,5 +1,7 @@
 -- The order's row: the parameters of a DEFINE record, as a group's row has them; its key and its owners' words are 0.
 use Rattle.std.specs.Prelude.{ℕ, zero, suc, ◌-◌, cond, List, [], ◌∷◌, eqb, ltb, length, get_or}
+use Rattle.std.specs.Prelude.{Some, None}
+use Rattle.std.specs.Prelude as std
 use Rattle.std.proofs.Math.Option.{Option, none, some}
 use Rattle.rows.specs.Layout.{group_words, key_word, reference_word, call_word, broadcast_word, class_word, lifetime_word}
 use Rattle.rows.specs.Layout.{name_length, first_letter, owner_count}
@@ -7,6 +9,10 @@ use Rattle.rules.specs.Recorded.{optional_number, optional_choice, optional_name
 use Rattle.rules.specs.Recorded.{set_reference, acknowledged_call, broadcast, class_of_usage, attachment_lifetime, temporary_assignment}
 
 -- a value that may be absent, one up
+abbrev pub one_up : std.Option ℕ → ℕ
+one_up None = 0
+one_up (Some v) = suc v
+
 abbrev pub held_of : Option ℕ → ℕ
 held_of none = 0
 held_of (some v) = suc v

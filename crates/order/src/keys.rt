@@ -7,7 +7,7 @@ ghost use Rattle.order.specs.Keys.{fitting, keys_as, keys_held};
 ghost use Rattle.order.specs.Lists.{identity_of, list_of};
 ghost use Rattle.order.specs.Numbers.{radio_number, group_number, radio_at, group_at, asked_group};
 
-use crate::rising::put_rising;
+use crate::rising::sort;
 use crate::spelling::keys_in;
 use crate::{GroupAsked, GroupKey, Gtsi, Identity, Itsi, Key, Numbers, Owners, RadioKey, Radios};
 use rows::{MAX_LISTED_OWNERS, MAX_NUMBERS, MAX_OWNERS};
@@ -149,10 +149,12 @@ impl<K: Key, const N: usize> Keys<K, N> {
     pub fn rising(&self) -> Self
         ensures { result ≡ keys_as (in_order (keys_held self.now)) }
     {
+        let count = self.len();
         let mut key = [0u64; N];
-        put_rising(self.as_slice(), &mut key);
+        key[..count].copy_from_slice(self.as_slice());
+        sort(&mut key[..count]);
         Keys {
-            count: self.len(),
+            count,
             key,
             of: PhantomData,
         }

@@ -3,11 +3,13 @@ ghost use Rattle.std.specs.Prelude.{◌+◌, ◌<◌, ◌≡◌};
 ghost use Rattle.layout.specs.Frame.{places};
 ghost use Rattle.rules.specs.Mark.{begun};
 ghost use Rattle.rules.specs.Recorded.{optional, optional_yes, acknowledgement_requested};
-ghost use Rattle.order.specs.Recorded.{identity_in, list_at, group_list, owner_list, radio_list, lists_of};
+ghost use Rattle.order.specs.Recorded.{identity_in, numbers_in, list_at, group_list, owner_list, radio_list, lists_of};
 
 use crate::values::{one_down, optional};
 use crate::{DefineLists, Identity, Numbers};
 use layout::PLACES;
+use rows::WAITING;
+use std::array;
 use table::place::define::*;
 use table::place::*;
 
@@ -16,7 +18,7 @@ fn optional_yes(place: [u32; PLACES], k: usize) -> bool
     requires { k + 1 < places }
     ensures { result ≡ optional_yes place k }
 {
-    optional(place, k) & (place[k + 1] == YES)
+    optional(place, k) && place[k + 1] == YES
 }
 
 // The identity whose four places begin at `k`.
@@ -32,50 +34,44 @@ fn identity_at(place: [u32; PLACES], k: usize) -> Identity
     }
 }
 
-// The list whose number type is at `k`, its ten identities behind it, where it is given.
-fn numbers_at(place: [u32; PLACES], k: usize, given: bool) -> Option<Numbers>
+// The list whose number type is at `k`, its ten identities behind it.
+fn numbers_at(place: [u32; PLACES], k: usize) -> Numbers
+    requires { k + 40 < places }
+    ensures { result ≡ numbers_in place k }
+{
+    Numbers {
+        code: one_down(place[k]),
+        identity: array::from_fn(|i| identity_at(place, k + 1 + 4 * i)),
+    }
+}
+
+// That list, where it is given.
+fn list_at(place: [u32; PLACES], given: bool, k: usize) -> Option<Numbers>
     requires { k + 40 < places }
     ensures { result ≡ list_at place given k }
 {
-    if !given {
-        return None;
-    }
-    Some(Numbers {
-        code: one_down(place[k]),
-        identity: [
-            identity_at(place, k + 1),
-            identity_at(place, k + 5),
-            identity_at(place, k + 9),
-            identity_at(place, k + 13),
-            identity_at(place, k + 17),
-            identity_at(place, k + 21),
-            identity_at(place, k + 25),
-            identity_at(place, k + 29),
-            identity_at(place, k + 33),
-            identity_at(place, k + 37),
-        ],
-    })
+    given.then(|| numbers_at(place, k))
 }
 
 // The groups that a DEFINE record names.
 fn group_list(place: [u32; PLACES]) -> Option<Numbers>
     ensures { result ≡ group_list place }
 {
-    numbers_at(place, GROUPS, place[GIVEN] == YES)
+    list_at(place, place[GIVEN] == YES, GROUPS)
 }
 
 // The owners that it gives.
 fn owner_list(place: [u32; PLACES]) -> Option<Numbers>
     ensures { result ≡ owner_list place }
 {
-    numbers_at(place, OWNERS, optional_yes(place, OWNERS_INCLUDED_GIVEN))
+    list_at(place, optional_yes(place, OWNERS_INCLUDED_GIVEN), OWNERS)
 }
 
 // The radios that it assigns.
 fn radio_list(place: [u32; PLACES]) -> Option<Numbers>
     ensures { result ≡ radio_list place }
 {
-    numbers_at(place, RADIOS, optional_yes(place, ASSIGNMENT_GIVEN))
+    list_at(place, optional_yes(place, ASSIGNMENT_GIVEN), RADIOS)
 }
 
 // The lists of a DEFINE record.
@@ -94,7 +90,8 @@ pub fn first_state(place: [u32; PLACES]) -> u64
     ensures { result ≡ (begun (optional place acknowledgement_requested)).state }
 {
     if optional(place, ACKNOWLEDGEMENT_GIVEN) {
-        return 1;
+        WAITING
+    } else {
+        0
     }
-    0
 }

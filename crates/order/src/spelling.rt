@@ -7,9 +7,9 @@ ghost use Rattle.rows.specs.Layout.{max_listed};
 ghost use Rattle.order.specs.Keys.{fitting, keys_as};
 ghost use Rattle.order.specs.Lists.{numbers_of, list_of};
 
+use crate::Numbers;
 use crate::keys::{Keys, identity_key};
 use crate::lists::member;
-use crate::Numbers;
 use rows::MAX_NUMBERS;
 use std::marker::PhantomData;
 

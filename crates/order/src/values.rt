@@ -6,21 +6,11 @@ ghost use Rattle.rules.specs.Recorded.{optional};
 use layout::PLACES;
 use table::place::define::O_BIT;
 
-// A place's value.
-pub fn widened(value: u32) -> u64
-    ensures { (result ≡ value) × (result < 4294967296) }
-{
-    value as u64
-}
-
 // A choice's code: its place holds it one up.
 pub fn one_down(value: u32) -> u32
     ensures { result ≡ value - 1 }
 {
-    if value == 0 {
-        return 0;
-    }
-    value - 1
+    value.saturating_sub(1)
 }
 
 // Whether an optional element of a DEFINE record is there; its P-bit is at `k`.
@@ -28,5 +18,5 @@ pub fn optional(place: [u32; PLACES], k: usize) -> bool
     requires { k < places }
     ensures { result ≡ optional place k }
 {
-    (place[O_BIT] == 1) & (place[k] == 1)
+    place[O_BIT] == 1 && place[k] == 1
 }

@@ -8,4 +8,4 @@ use Rattle.order.proofs.row.letter_at.Goals as goal
 pub returns-then-k-name_count : goal.returns-then-k-name_count
 returns-then-k-name_count c =
     let a = c.args in
-    c.widened.ensures.0 ∙ letter-place a.place (search rules) a.k (omega (arith, c.name_count.ensures))
+    c.from.ensures ∙ letter-place a.place (search rules) a.k (omega (arith, c.name_count.ensures, c.if-k-name_count.true))

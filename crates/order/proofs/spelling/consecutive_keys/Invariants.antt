@@ -1,6 +1,5 @@
 -- `order::consecutive_keys` meets its contract: the first i keys stand at the front.
 use mathlib.Core.Path.{◌≡◌}
-use Prim.Native.Nat.{◌≤◌}
 use lib.ListN.{length, take, drop, replicate}
 use Rattle.rules.specs.Named.{consecutive, max_numbers}
 use Rattle.order.proofs.spelling.consecutive_keys.Given as goal

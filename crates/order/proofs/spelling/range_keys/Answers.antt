@@ -2,7 +2,7 @@
 use mathlib.Core.Path.{◌≡◌, sym, ap, ◌∙◌}
 use mathlib.Core.List.{List, []}
 use native.Mathlib.Omega.{arith}
-use Prim.Native.Nat.{ℕ, ◌+◌, ◌-◌, ◌≤◌, ◌<◌}
+use Prim.Native.Nat.{ℕ, ◌+◌, ◌-◌, ◌≤◌}
 use lib.ListN.{length}
 use Rattle.rules.specs.Named.{consecutive, span}
 use Rattle.rules.proofs.Consecutive.{consecutive-length}
@@ -24,10 +24,10 @@ returns-then-last-first g c =
     let a = c.args in
     let none = elim c.then-last-first.branch as (λ _. fitting a.most (all a.first a.last) ≡ []) [
       | then-last-first-via-then-last-first w ↦
-        let empty : span a.first a.last ≡ 0 = omega (arith, w.if-last-first.true) in
-        ap (λ (n : ℕ). fitting a.most (consecutive a.first n)) empty ∙ fitting-all a.most [] (omega arith)
+          let empty : span a.first a.last ≡ 0 = omega (arith, w.if-last-first.true) in
+          ap (λ (n : ℕ). fitting a.most (consecutive a.first n)) empty ∙ fitting-all a.most [] (omega arith)
       | then-last-first-via-else-last-first+then-most-last w ↦
-        fitting-none a.most (all a.first a.last) (omega (arith, many a.first a.last, w.if-most-last.true, w.if-last-first.false))
+          fitting-none a.most (all a.first a.last) (omega (arith, many a.first a.last, w.if-most-last.true, w.if-last-first.false))
     ] in
     c.no_keys.ensures ∙ ap keys_as (sym none)
 
