@@ -1,13 +1,13 @@
 -- Laws of text that is put into a buffer: a text behind another, digits from the last to the first, the reply as a whole.
 use mathlib.Core.Path.{◌≡◌, refl, sym, ap, ◌∙◌, subst}
-use mathlib.Core.List.{List, [], ◌∷◌, ◌++◌}
-use Prim.Native.Nat.{ℕ, zero, suc, ◌+◌, ◌/◌, ◌%◌, ◌<◌, ◌≤◌}
+use mathlib.Core.List.{List, [], ◌∷◌, ◌++◌, append_assoc}
+use Prim.Native.Nat.{ℕ, zero, suc, ◌+◌, ◌-◌, ◌/◌, ◌%◌, ◌≤◌}
 use native.Mathlib.Nat.{add-zero, zero-add}
-use native.Mathlib.Numerals.{add-one}
 use native.Mathlib.Omega.{arith}
-use lib.ListN.{length, set, get_or, drop, length-append}
-use lib.Seq.{sets, sets-eq, set_comm, drop-cons}
-use borrow.Author.Tests.{le-leb, lt-leb}
+use lib.ListN.{length, set, length-append}
+use lib.Seq.{sets, sets-eq, set_comm, drop-drop}
+use borrow.Rule.Slice.PartMut.{put_mid}
+use borrow.Author.Tests.{le-leb}
 use Rattle.text.specs.Digits.{digit, digits_text}
 use Rattle.text.specs.Put.{Put, Replied, longest, within}
 
@@ -50,22 +50,17 @@ digit-turn out at i rest x e =
     set-behind (digits_text (rest / 16) i) out at (at + i) x (omega arith)
     ∙ sym (sets-append (digits_text (rest / 16) i) out at (digit (rest % 16) ∷ []) ∙ rw (size, ← e))
 
--- one more character of a text is stored: those that are left make the same text
-pub text-turn : (out text : List ℕ) (at i : ℕ) → i < length text
-    → sets (set out (at + i) (get_or text i 0)) (at + (i + 1)) (drop (i + 1) text) ≡ sets out (at + i) (drop i text)
-text-turn out text at i h =
-    let place : at + (i + 1) ≡ suc (at + i) = omega arith in
-    rw (drop-cons text i 0, place, add-one)
+-- a part of the buffer is the text
+pub text-put : (out text part : List ℕ) (at : ℕ) → at + length text ≤ length out → part ≡ text
+    → Put text out (put_mid at (at + length text - at) out part) at (at + length text)
+text-put out text part at fits e =
+    let long : at + length text - at ≡ length text = omega arith in
+    record { ends = refl; stored = rw (long, e, sets-eq text out at fits, ← append_assoc, drop-drop) }
 
--- the reply, where there is room for the longest and where not
+-- the reply, where there is room for the longest
 pub replied : {text same before after : List ℕ} {count : ℕ} → text ≡ same → longest ≤ length before
     → (count ≤ longest) × Put same before after 0 count → Replied text before after count
 replied {text} {same} {before} e room (short, p) =
     let whole : within (length before) text ≡ same = rw (le-leb _ _ room) e in
     let fits : 0 + length same ≤ length before = omega (arith, p.ends) in
     record { counted = rw whole (omega (arith, p.ends)); laid = rw whole (p.stored ∙ rw zero-add at (sets-eq same before 0 fits)); short = short }
-
-pub not-replied : {text before : List ℕ} → length before < longest → Replied text before before 0
-not-replied {text} {before} h =
-    let none : within (length before) text ≡ [] = simp (lt-leb _ _ h) in
-    record { counted = rw none; laid = rw none; short = omega arith }

@@ -1,16 +1,15 @@
--- What a text is by its case: a parameter that is held, the owners and the name where there are some, a number of one digit and of two.
+-- What a text is by its case: a parameter that is held, a name with letters, the first rows where more are asked for.
 use mathlib.Core.Path.{◌≡◌, refl, sym, ap, ◌∙◌}
-use mathlib.Core.List.{List, [], ◌∷◌, ◌++◌}
-use Prim.Native.Nat.{ℕ, zero, suc, ◌+◌, ◌-◌, ◌/◌, ◌%◌, ◌<◌, ◌≤◌, min}
+use mathlib.Core.Bool.{false}
+use mathlib.Core.List.{List, [], ◌∷◌}
+use Prim.Native.Nat.{ℕ, zero, suc, ◌-◌, ◌%◌, ◌<◌, ◌≤◌, min}
 use native.Mathlib.Nat.{zero-min, suc-min-suc, min-le_left, min-le_right}
 use native.Mathlib.Omega.{arith}
-use lib.ListN.{length, get_or, take, drop, length-take}
+use lib.Dec.{eqb}
+use lib.ListN.{length, take, length-take}
 use lib.Seq.{take-nil, take-take}
-use borrow.Author.Tests.{lt-ltb, le-ltb}
-use Rattle.order.specs.declared.Itsi.{Itsi}
-use Rattle.replies.specs.Showing.{nobody}
-use Rattle.text.specs.Digits.{digit, decimal_text}
-use Rattle.text.specs.Text.{joined, held_letter, number_text, next_owner, owners_text, letter_text, name_text}
+use Rattle.text.specs.Digits.{digit}
+use Rattle.text.specs.Text.{joined, held_letter, letter_text, name_text}
 
 pub value-held : (held : ℕ) → 0 < held → held_letter held ≡ digit ((held - 1) % 16)
 value-held zero h = absurd (omega arith)
@@ -18,23 +17,9 @@ value-held (suc held) h =
     let less : held ≡ suc held - 1 = omega arith in
     ap (λ n. digit (n % 16)) less
 
-pub some-owners : (owners : List Itsi) (count : ℕ) → 0 < count → count ≤ length owners
-    → owners_text (take count owners)
-    ≡ number_text (get_or owners 0 nobody).0 (get_or owners 0 nobody).1 ++ joined next_owner (drop 1 (take count owners))
-some-owners owners zero h fits = absurd (omega arith)
-some-owners [] (suc count) h fits = absurd (omega arith)
-some-owners (owner ∷ owners) (suc count) h fits = refl
-
-pub some-name : (name : List ℕ) (count : ℕ) → 0 < count → count ≤ length name → name_text (take count name) ≡ joined letter_text (take count name)
-some-name name zero h fits = absurd (omega arith)
-some-name [] (suc count) h fits = absurd (omega arith)
-some-name (letter ∷ name) (suc count) h fits = refl
-
-pub one-digit : (n number : ℕ) → n ≡ number → n < 10 → decimal_text number ≡ (48 + n) ∷ []
-one-digit n number e h = rw (← e) (simp (lt-ltb _ _ h))
-
-pub two_digits : (n number : ℕ) → n ≡ number → 10 ≤ n → decimal_text number ≡ (48 + n / 10) ∷ (48 + n % 10) ∷ []
-two_digits n number e h = rw (← e) (simp (le-ltb _ _ h))
+pub some-name : (name : List ℕ) → eqb (length name) 0 ≡ false → name_text name ≡ joined letter_text name
+some-name [] h = absurd (cc)
+some-name (letter ∷ name) h = refl
 
 module _ {A : Type 0} where
   -- as many items as there are, where more are asked for

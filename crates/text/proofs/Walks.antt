@@ -1,66 +1,49 @@
--- Laws of a loop that puts the text of one item after the other, all of one width.
+-- Laws of a loop that puts the text of one item after the other.
 use mathlib.Core.Path.{◌≡◌, refl, sym, ap, ◌∙◌}
-use mathlib.Core.List.{List, [], ◌∷◌}
-use Prim.Native.Nat.{ℕ, suc, ◌+◌, ◌-◌, ◌*◌, ◌<◌, ◌≤◌}
-use native.Mathlib.Nat.{add-zero, sub_self, mul-zero, mul-suc}
+use mathlib.Core.List.{List, [], ◌∷◌, ◌++◌, append_assoc, append-nil}
+use Prim.Native.Nat.{ℕ, ◌+◌, ◌*◌, ◌<◌, ◌≤◌}
+use native.Mathlib.Nat.{mul-suc}
 use native.Mathlib.Numerals.{add-one}
 use native.Mathlib.Omega.{arith}
-use lib.ListN.{length, get_or, take, drop, length-take, length-drop, length-append, drop_of_length-le}
-use lib.Seq.{sets, drop-cons, get_or-take, length-sets}
+use lib.ListN.{length, get_or, take, length-append}
+use lib.Seq.{take_all, length-take-le}
+use Rattle.std.proofs.lemmas.List.{take_more}
 use Rattle.text.specs.Text.{joined}
 use Rattle.text.specs.Put.{Put}
-use Rattle.text.proofs.Puts.{sets-append}
+use Rattle.text.proofs.Puts.{put_as, put_then}
 
-module _ {A : Type 0} (f : A → List ℕ) (width : ℕ) where
-  -- from item `first` on the first `count` items are put, into `before` at `from`; those from `i` on are left, and make the same text at `next`
-  pub record Walk (items : List A) (count : ℕ) (before : List ℕ) (from first : ℕ) (out : List ℕ) (next i : ℕ) : Type 0 where
-    pub low : first ≤ i
-    pub high : i ≤ count
-    pub kept : length out ≡ length before
-    pub place : next ≡ from + width * (i - first)
-    pub same : sets out next (joined f (drop i (take count items))) ≡ sets before from (joined f (drop first (take count items)))
+module _ {A : Type 0} (f : A → List ℕ) where
+  joined-append : (items more : List A) → joined f (items ++ more) ≡ joined f items ++ joined f more
+  joined-append [] more = refl
+  joined-append (item ∷ items) more =
+      ap (λ (text : List ℕ). f item ++ text) (joined-append items more) ∙ sym (append_assoc (f item) (joined f items) (joined f more))
 
-  pub walk_start : {items : List A} {count : ℕ} {before : List ℕ} {from first : ℕ} → first ≤ count → Walk items count before from first before from first
-  walk_start {from = from} {first = first} h = record {
-    low = omega arith;
-    high = h;
-    kept = refl;
-    place = rw (sub_self first, mul-zero width) (sym (add-zero from));
-    same = refl;
-  }
+  -- one item more is put
+  pub put_next : (items : List A) (i : ℕ) {item : A} (none : A) {before out after : List ℕ} {at next end : ℕ} → i < length items
+      → item ≡ get_or items i none → Put (joined f (take i items)) before out at next → Put (f item) out after next end
+      → Put (joined f (take (i + 1) items)) before after at end
+  put_next items i {item} none fits is put more =
+      let one : joined f (take (i + 1) items) ≡ joined f (take i items) ++ f item =
+      ap (joined f) (take_more items i none fits ∙ ap (λ (x : A). take i items ++ x ∷ []) (sym is)) ∙ joined-append (take i items) (item ∷ [])
+      ∙ ap (λ (text : List ℕ). joined f (take i items) ++ text) (append-nil (f item)) in
+      put_as one (put_then put more)
 
-  module _ (wide : (item : A) → length (f item) ≡ width) where
-    joined_length : (items : List A) → length (joined f items) ≡ width * length items
-    joined_length [] = omega arith
-    joined_length (item ∷ items) =
-        let rest = joined_length items in
-        let more = mul-suc width (length items) in
-        omega (arith, length-append (f item) (joined f items), wide item)
+  -- all are
+  pub put_all : (items : List A) {before out : List ℕ} {at next : ℕ}
+      → Put (joined f (take (length items) items)) before out at next → Put (joined f items) before out at next
+  put_all items put = put_as (sym (ap (joined f) (take_all (length items) items (omega arith)))) put
 
-    module _ {items : List A} {count first from i next : ℕ} {before out : List ℕ}
-        (w : Walk items count before from first out next i) (fits : count ≤ length items) where
-      pub walk_turn : {after : List ℕ} {end : ℕ} (none : A) → i < count → Put (f (get_or items i none)) out after next end
-          → Walk items count before from first after end (i + 1)
-      walk_turn {after} {end} none h p =
-          let inside : i < length (take count items) = simp length-take (omega arith) in
-          let item : drop i (take count items) ≡ get_or items i none ∷ drop (i + 1) (take count items) =
-          rw (drop-cons (take count items) i none, get_or-take, add-one) in
-          let more = joined f (drop (i + 1) (take count items)) in
-          let one : i + 1 - first ≡ suc (i - first) = omega (arith, w.low) in
-          let longer : width * (i + 1 - first) ≡ width * (i - first) + width = rw one (mul-suc width (i - first)) in
-          record {
-            low = omega (arith, w.low);
-            high = omega arith;
-            kept = rw p.stored (simp length-sets w.kept);
-            place = omega (arith, w.place, p.ends, wide (get_or items i none), longer);
-            same = rw (p.stored, p.ends) (sym (sets-append (f (get_or items i none)) out next more) ∙ rw item at w.same);
-          }
+  module _ (most : ℕ) (short : (item : A) → length (f item) ≤ most) where
+    pub joined-short : (items : List A) → length (joined f items) ≤ most * length items
+    joined-short [] = omega arith
+    joined-short (item ∷ items) =
+        omega (arith, joined-short items, mul-suc most (length items), length-append (f item) (joined f items), short item)
 
-      pub walk_end : count ≤ i → Put (joined f (drop first (take count items))) before out from next
-      walk_end h =
-          let past : length (take count items) ≤ i = simp length-take (omega arith) in
-          let size : length (drop first (take count items)) ≡ i - first = simp (length-drop, length-take) (omega (arith, w.high)) in
-          record {
-            ends = w.place ∙ sym (ap (λ n. from + n) (joined_length (drop first (take count items)) ∙ ap (λ n. width * n) size));
-            stored = rw (drop_of_length-le (take count items) past) at w.same;
-          }
+    -- and there is room for the next
+    pub room-left : (items : List A) (i : ℕ) {before out : List ℕ} {at next : ℕ} → i < length items
+        → Put (joined f (take i items)) before out at next → next + most ≤ at + most * (i + 1)
+    room-left items i fits put =
+        let size : length (take i items) ≡ i = length-take-le i items (omega arith) in
+        let some = joined-short (take i items) in
+        let all : most * length (take i items) ≡ most * i = ap (λ n. most * n) size in
+        rw (add-one) (omega (arith, put.ends, mul-suc most i))

@@ -1,4 +1,4 @@
--- Characters and digits, as the numbers of their bytes: a quoted text; hexadecimal digits, upper case; a refusal's number, in decimal.
+-- Characters and digits, as the numbers of their bytes: a quoted text; hexadecimal digits, upper case.
 use Rattle.std.specs.Prelude.{cond, List, [], ◌∷◌, ◌++◌, ℕ, zero, suc, ◌+◌, ◌-◌, ◌/◌, ◌%◌, ltb}
 use Prim.Native.Char.{code}
 use Prim.Native.String.{String, [] as end, ◌∷◌ as ◌then◌}
@@ -16,7 +16,3 @@ digit value = cond (ltb value 10) (code "0" + value) (code "A" - 10 + value)
 abbrev pub digits_text : ℕ → ℕ → List ℕ
 digits_text value zero = []
 digits_text value (suc width) = digits_text (value / 16) width ++ (digit (value % 16) ∷ [])
-
--- a number below 100 in decimal: one digit, or two
-abbrev pub decimal_text : ℕ → List ℕ
-decimal_text n = cond (ltb n 10) ((code "0" + n) ∷ []) ((code "0" + n / 10) ∷ (code "0" + n % 10) ∷ [])

@@ -1,20 +1,15 @@
 -- What desk's replies say, character by character: R and the refusal's number, or A and what was asked for.
-use Rattle.std.specs.Prelude.{cond, List, [], ◌∷◌, ◌++◌, ℕ, zero, suc, ◌+◌, ◌%◌, eqb, get_or, take}
+use Rattle.std.specs.Prelude.{cond, List, [], ◌∷◌, ◌++◌, ℕ, zero, suc, ◌+◌, ◌%◌, eqb, get_or, take, Result, Ok, Err, ⊤}
 use Prim.Native.Char.{code}
 use Prim.Native.String.{String}
 use Rattle.order.specs.declared.Itsi.{Itsi}
 use Rattle.refusal.specs.Number.{number_of}
+use Rattle.refusal.specs.Reply.{decimal}
 use Rattle.refusal.specs.declared.Refusal.{Refusal}
-use Rattle.replies.specs.declared.Reply.{Reply}
-use Rattle.replies.specs.declared.Reply.TheVariants.{Done, Refused}
-use Rattle.replies.specs.declared.Sent.{Sent}
-use Rattle.replies.specs.declared.Sent.TheVariants.{Orders, Refused as NotSent}
-use Rattle.replies.specs.declared.Members.{Members}
-use Rattle.replies.specs.declared.Members.TheVariants.{Radios, Refused as NotListed}
 use Rattle.replies.specs.declared.Shown.{Shown}
 use Rattle.rows.specs.Layout.{order_kind, order_radio, order_group, entry_radio, entry_state}
 use Rattle.rules.specs.Outgoing.{assign}
-use Rattle.text.specs.Digits.{quoted, digit, digits_text, decimal_text}
+use Rattle.text.specs.Digits.{quoted, digit, digits_text}
 
 -- the texts of a list's items, one behind the other
 abbrev pub joined : {A : Type 0} → (A → List ℕ) → List A → List ℕ
@@ -22,21 +17,26 @@ joined f [] = []
 joined f (item ∷ more) = f item ++ joined f more
 
 -- "A" and the text of each row
-abbrev pub rows_text : (List ℕ → List ℕ) → List (List ℕ) → List ℕ
+abbrev pub rows_text : {A : Type 0} → (A → List ℕ) → List A → List ℕ
 rows_text row_text rows = quoted "A" ++ joined row_text rows
 
 -- "R" and the number
 abbrev pub refusal_text : Refusal → List ℕ
-refusal_text refusal = quoted "R" ++ decimal_text (number_of refusal)
+refusal_text refusal = quoted "R" ++ decimal (number_of refusal)
 
 -- "A", or the refusal
-abbrev pub reply_text : Reply → List ℕ
-reply_text Done = quoted "A"
-reply_text (Refused refusal) = refusal_text refusal
+abbrev pub reply_text : Result ⊤ Refusal → List ℕ
+reply_text (Ok done) = quoted "A"
+reply_text (Err refusal) = refusal_text refusal
 
 -- the most orders or radios of a reply
 abbrev pub most : ℕ
 most = 2048
+
+-- the orders, or the radios, are the first rows
+abbrev pub listed_text : {A : Type 0} → (A → List ℕ) → Result ℕ Refusal → List A → List ℕ
+listed_text row_text (Ok count) rows = rows_text row_text (take count (take most rows))
+listed_text row_text (Err refusal) rows = refusal_text refusal
 
 -- "a" for an assignment, "d" for a deassignment
 abbrev pub kind_letter : ℕ → ℕ
@@ -58,11 +58,6 @@ order_text row =
     ++ quoted ":"
     ++ number_text (get_or row order_group 0) (get_or row (order_group + 1) 0)
 
--- the orders are the first rows
-abbrev pub sent_text : Sent → List (List ℕ) → List ℕ
-sent_text (Orders count) rows = rows_text order_text (take count (take most rows))
-sent_text (NotSent refusal) rows = refusal_text refusal
-
 -- a row of radio and state: " 000009/000000=1"
 abbrev pub member_text : List ℕ → List ℕ
 member_text row =
@@ -70,11 +65,6 @@ member_text row =
     ++ number_text (get_or row entry_radio 0) (get_or row (entry_radio + 1) 0)
     ++ quoted "="
     ++ digits_text (get_or row entry_state 0) 1
-
--- the radios are the first rows
-abbrev pub listed_text : Members → List (List ℕ) → List ℕ
-listed_text (Radios count) rows = rows_text member_text (take count (take most rows))
-listed_text (NotListed refusal) rows = refusal_text refusal
 
 -- a parameter's code in one digit; it is held one up, and "-" where it is absent
 abbrev pub held_letter : ℕ → ℕ
@@ -125,10 +115,7 @@ abbrev pub back_text : Shown → List ℕ
 back_text shown =
     quoted " name=" ++ name_text (take shown.letters shown.name) ++ late_text shown.class shown.lifetime shown.temporary
 
--- what is shown, by its verdict
-abbrev pub answered : Reply → Shown → List ℕ
-answered Done shown = front_text shown ++ back_text shown
-answered (Refused refusal) shown = refusal_text refusal
-
-abbrev pub shown_text : Shown → List ℕ
-shown_text shown = answered shown.reply shown
+-- what is shown, or the refusal
+abbrev pub shown_text : Result Shown Refusal → List ℕ
+shown_text (Ok shown) = front_text shown ++ back_text shown
+shown_text (Err refusal) = refusal_text refusal

@@ -1,12 +1,25 @@
-// The replies that list rows: A, and the text of each row behind it.
-ghost use Rattle.std.specs.Prelude.{◌≡◌, ◌+◌, ◌≤◌, length, take};
-ghost use Rattle.text.specs.Text.{most, rows_text, kind_letter, kind_text, order_text, member_text};
-ghost use Rattle.text.specs.Put.{Put, longest};
+// Items whose texts stand one behind the other: the rows of a list, the owners of a show.
+ghost use Rattle.std.specs.Prelude.{◌≡◌, ◌+◌, ◌*◌, ◌≤◌, ℕ, List, length};
+ghost use Rattle.std.proofs.Common.{lit≤};
+ghost use Rattle.text.specs.Text.{joined, kind_letter, kind_text, order_text, member_text, next_owner};
+ghost use Rattle.text.specs.Put.{Put};
 
 use crate::pieces::{put_byte, put_digits, put_number};
+use order::Itsi;
 use rows::{
     ENTRY_RADIO, ENTRY_STATE, ENTRY_WORDS, ORDER_GROUP, ORDER_KIND, ORDER_RADIO, ORDER_WORDS,
 };
+
+// An item's text; none is longer than an order's, 30 bytes.
+pub trait Item {
+    ghost text: { Self → List ℕ };
+
+    fn put(&self, out: &mut [u8], at: usize) -> usize
+        requires { at + 30 ≤ length out.old }
+        ensures { Put (text self.now) out.old out.new at result };
+
+    ghost short: { (item : Self) → length (text item) ≤ 30 };
+}
 
 // The letter of an order's kind: assign or deassign.
 fn kind_letter(kind: u64) -> u8
@@ -26,49 +39,50 @@ fn put_kind(kind: u64, out: &mut [u8], at: usize) -> usize
 }
 
 // An order: its kind, radio and group.
-fn put_order(row: [u64; ORDER_WORDS], out: &mut [u8], at: usize) -> usize
-    requires { at + 30 ≤ length out.old }
-    ensures { Put (order_text row) out.old out.new at result }
-{
-    let at = put_kind(row[ORDER_KIND], out, at);
-    let at = put_number(b':', row[ORDER_RADIO], row[ORDER_RADIO + 1], out, at);
-    put_number(b':', row[ORDER_GROUP], row[ORDER_GROUP + 1], out, at)
-}
+impl Item for [u64; ORDER_WORDS] {
+    ghost text = { order_text };
 
-// A and the first `count` orders.
-pub fn put_orders(rows: &[[u64; ORDER_WORDS]], count: usize, out: &mut [u8]) -> usize
-    requires { (count ≤ length rows.now) × (count ≤ most) × (longest ≤ length out.old) }
-    ensures { (result ≤ longest) × Put (rows_text order_text (take count rows.now)) out.old out.new 0 result }
-{
-    let mut at = put_byte(b'A', out, 0);
-    let mut i = 0;
-    while i < count {
-        at = put_order(rows[i], out, at);
-        i += 1;
+    fn put(&self, out: &mut [u8], at: usize) -> usize {
+        let at = put_kind(self[ORDER_KIND], out, at);
+        let at = put_number(b':', self[ORDER_RADIO], self[ORDER_RADIO + 1], out, at);
+        put_number(b':', self[ORDER_GROUP], self[ORDER_GROUP + 1], out, at)
     }
-    at
+
+    ghost short = { λ row. lit≤ tt };
 }
 
 // A radio and its state.
-fn put_member(row: [u64; ENTRY_WORDS], out: &mut [u8], at: usize) -> usize
-    requires { at + 16 ≤ length out.old }
-    ensures { Put (member_text row) out.old out.new at result }
-{
-    let at = put_number(b' ', row[ENTRY_RADIO], row[ENTRY_RADIO + 1], out, at);
-    let at = put_byte(b'=', out, at);
-    put_digits(row[ENTRY_STATE], 1, out, at)
+impl Item for [u64; ENTRY_WORDS] {
+    ghost text = { member_text };
+
+    fn put(&self, out: &mut [u8], at: usize) -> usize {
+        let at = put_number(b' ', self[ENTRY_RADIO], self[ENTRY_RADIO + 1], out, at);
+        let at = put_byte(b'=', out, at);
+        put_digits(self[ENTRY_STATE], 1, out, at)
+    }
+
+    ghost short = { λ row. lit≤ tt };
 }
 
-// A and the first `count` radios.
-pub fn put_members(rows: &[[u64; ENTRY_WORDS]], count: usize, out: &mut [u8]) -> usize
-    requires { (count ≤ length rows.now) × (count ≤ most) × (longest ≤ length out.old) }
-    ensures { (result ≤ longest) × Put (rows_text member_text (take count rows.now)) out.old out.new 0 result }
-{
-    let mut at = put_byte(b'A', out, 0);
-    let mut i = 0;
-    while i < count {
-        at = put_member(rows[i], out, at);
-        i += 1;
+// An owner behind another.
+impl Item for Itsi {
+    ghost text = { next_owner };
+
+    fn put(&self, out: &mut [u8], at: usize) -> usize {
+        put_number(b',', u64::from(self.0), u64::from(self.1), out, at)
     }
-    at
+
+    ghost short = { λ owner. lit≤ tt };
+}
+
+// Each item, one behind the other.
+pub fn put_each<T: Item>(items: &[T], out: &mut [u8], at: usize) -> usize
+    requires { at + 30 * length items.now ≤ length out.old }
+    ensures { Put (joined T.text items.now) out.old out.new at result }
+{
+    let mut next = at;
+    for item in items {
+        next = item.put(out, next);
+    }
+    next
 }

@@ -1,4 +1,5 @@
 // Pieces of text. Each function puts one into `out`, from a place on, and answers the place behind it.
+// Stays: `out` and the place go side by side, since a struct of both would hold the caller's `&mut`, and each method would have to say that it still does.
 ghost use Rattle.std.specs.Prelude.{◌≡◌, [], ◌∷◌, ◌+◌, ◌≤◌, length};
 ghost use Rattle.text.specs.Digits.{digit, digits_text};
 ghost use Rattle.text.specs.Text.{number_text};
@@ -31,9 +32,7 @@ pub fn put_digits(value: u64, width: usize, out: &mut [u8], at: usize) -> usize
     ensures { Put (digits_text value width) out.old out.new at result }
 {
     let mut rest = value;
-    let mut i = width;
-    while 0 < i {
-        i -= 1;
+    for i in (0..width).rev() {
         out[at + i] = digit_of(rest % 16);
         rest /= 16;
     }
@@ -64,10 +63,7 @@ pub fn put_text(text: &[u8], out: &mut [u8], at: usize) -> usize
     requires { at + length text.now ≤ length out.old }
     ensures { Put text.now out.old out.new at result }
 {
-    let mut i = 0;
-    while i < text.len() {
-        out[at + i] = text[i];
-        i += 1;
-    }
-    at + i
+    let end = at + text.len();
+    out[at..end].copy_from_slice(text);
+    end
 }

@@ -13,6 +13,6 @@ returns c =
     let shown = c.args.shown in
     -- the name's places
     let full : length shown.name ≡ 16 = search rules in
-    let all = take-fit shown.name shown.letters 16 full c.least.ensures in
+    let all = take-fit shown.name shown.letters 16 full c.min.ensures in
     let first = put_then c.put_text-at.ensures (put_as (ap name_text (sym all)) c.put_name-at.ensures.1) in
     (omega arith, put_then first (rw c.late-values.ensures at c.put_text.ensures))

@@ -20,6 +20,6 @@ returns c =
     let shown = c.args.shown in
     -- the owners' places
     let full : length shown.owners ≡ max_owners = search (rules, length-mapped) in
-    let all = take-fit shown.owners shown.count max_owners full c.least.ensures in
+    let all = take-fit shown.owners shown.count max_owners full c.min.ensures in
     let first = put_then c.put_text-at.ensures (put_as (ap owners_text (sym all)) c.put_owners-at.ensures.1) in
     (omega arith, put_then first (rw c.early-values.ensures at c.put_text.ensures))

@@ -1,11 +1,8 @@
--- `text::parts::put_name` meets its contract: a walk over the letters, if there are any.
-use Prim.Native.Nat.{◌-◌}
-use Rattle.text.specs.Text.{letter_text}
-use Rattle.text.proofs.Walks.{Walk}
+-- `text::parts::put_name` meets its contract: so far the first letters are put.
+use lib.ListN.{take}
+use Rattle.text.specs.Text.{joined, letter_text}
+use Rattle.text.specs.Put.{Put}
 use Rattle.text.proofs.parts.put_name.Given as goal
 
-abbrev pub invariant-loop-i : goal.invariant-loop-i
-invariant-loop-i l = Walk letter_text 2 l.name l.count l.initial.out l.initial.next l.initial.i l.out l.next l.i
-
-abbrev pub decreases-loop-i : goal.decreases-loop-i
-decreases-loop-i l = l.count - l.i
+abbrev pub invariant-loop-letter : goal.invariant-loop-letter
+invariant-loop-letter l = Put (joined letter_text (take l.letter-index l.name)) l.initial.out l.out l.initial.next l.next

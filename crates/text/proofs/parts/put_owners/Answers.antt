@@ -1,29 +1,16 @@
--- `text::parts::put_owners` meets its contract: the first owner, and a walk over those behind it.
-use mathlib.Core.Path.{◌≡◌, refl}
-use Prim.Native.Nat.{◌≤◌}
+-- `text::parts::put_owners` meets its contract: the first owner, and those behind it.
+use mathlib.Core.Path.{ap}
 use native.Mathlib.Omega.{arith}
-use lib.ListN.{length}
-use Rattle.rules.specs.Written.{max_owners}
-use Rattle.replies.specs.Showing.{nobody}
-use Rattle.text.specs.Text.{next_owner}
+use Rattle.std.proofs.Common.{lit≤}
+use Rattle.text.specs.Text.{next_owner, owners_text}
 use Rattle.text.proofs.Puts.{put_as, put_then}
-use Rattle.text.proofs.Texts.{some-owners}
-use Rattle.text.proofs.Walks.{walk_turn, walk_end}
-use borrow.Author.Rules.{rules}
+use Rattle.text.proofs.Walks.{joined-short}
 use Rattle.text.proofs.parts.put_owners.Goals as goal
-
-pub loop-i-preserved : goal.loop-i-preserved
-loop-i-preserved c =
-    let full : length c.args.owners ≡ max_owners = search rules in
-    -- the owners that are put are there
-    let there : c.args.count ≤ length c.args.owners = omega arith in
-    walk_turn next_owner 14 (λ owner. refl) c.loop-i.invariant there nobody (omega arith) c.put_number-next.ensures
 
 pub returns : goal.returns
 returns c =
-    let a = c.args in
-    let full : length a.owners ≡ max_owners = search rules in
-    let there : a.count ≤ length a.owners = omega arith in
-    let some = some-owners a.owners a.count (omega arith) there in
-    let rest = walk_end next_owner 14 (λ owner. refl) c.loop-i.invariant there (omega arith) in
-    (omega arith, put_as some (put_then c.put_parts-next.ensures rest))
+    let split = c.in-Some.ensures.cases in
+    let first = rw (c.from.ensures, c.from-2.ensures) at c.put_parts-at.ensures in (
+      omega (arith, first.ends, c.put_each.ensures.ends, joined-short next_owner 30 (λ owner. lit≤ tt) c.in-Some.others.now),
+      put_as (ap owners_text split.0) (put_then first c.put_each.ensures),
+    )

@@ -2,7 +2,6 @@
 use mathlib.Core.Path.{◌≡◌, ◌∙◌}
 use Prim.Native.Nat.{suc, ◌-◌}
 use native.Mathlib.Omega.{arith}
-use lib.ListN.{length-set}
 use Rattle.text.proofs.Puts.{digit-turn, length_digits}
 use Rattle.text.proofs.pieces.put_digits.Goals as goal
 
@@ -10,11 +9,10 @@ pub loop-i-preserved : goal.loop-i-preserved
 loop-i-preserved c =
     let l = c.loop-i in
     let e : l.i ≡ suc (l.i - 1) = omega arith in
-    let turn = digit-turn l.out c.args.at (l.i - 1) l.rest _ c.digit_of.ensures in
-    (simp length-set l.invariant.0, omega arith, turn ∙ rw e at l.invariant.2)
+    digit-turn l.out c.args.at (l.i - 1) l.rest _ c.digit_of.ensures ∙ rw e at l.invariant
 
 pub returns : goal.returns
 returns c =
     let a = c.args in
     let e : c.loop-i.i ≡ 0 = omega arith in
-    record { ends = omega (arith, length_digits a.value a.width); stored = rw e at c.loop-i.invariant.2 }
+    record { ends = omega (arith, length_digits a.value a.width); stored = rw e at c.loop-i.invariant }
