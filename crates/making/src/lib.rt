@@ -4,11 +4,11 @@
 pub mod owners;
 
 ghost use Rattle.std.specs.Prelude.{get_or, ◌≡◌};
-ghost use Rattle.order.specs.Keys.{owners_held};
+ghost use Rattle.order.specs.Keys.{keys_held};
 ghost use Rattle.making.specs.Row.{keeps_word, made_word, made_row};
 
 use order::{GroupKey, Owners};
-use rows::{FIRST_OWNER, GROUP_WORDS, KEY_WORD, MAX_OWNERS, NAME_LENGTH, OWNER_COUNT, lesser};
+use rows::{FIRST_OWNER, GROUP_WORDS, KEY_WORD, NAME_LENGTH, OWNER_COUNT};
 
 // Whether a parameter's word stays: the order has none.
 fn keeps_word(order: [u64; GROUP_WORDS], j: usize) -> bool
@@ -20,17 +20,7 @@ fn keeps_word(order: [u64; GROUP_WORDS], j: usize) -> bool
     order[NAME_LENGTH] == 0
 }
 
-// An owner, 0 past the last.
-fn owner_at(owners: &[u64], k: usize) -> u64
-    ensures { result ≡ get_or owners.now k 0 }
-{
-    if k < owners.len() {
-        return owners[k];
-    }
-    0
-}
-
-// A word of the row.
+// A word of the row; past the last owner it is 0.
 fn made_word(
     group: GroupKey,
     order: [u64; GROUP_WORDS],
@@ -47,7 +37,7 @@ fn made_word(
         return owners.len() as u64;
     }
     if FIRST_OWNER <= j {
-        return owner_at(owners, j - FIRST_OWNER);
+        return owners.get(j - FIRST_OWNER).copied().unwrap_or(0);
     }
     if keeps_word(order, j) {
         return old[j];
@@ -55,34 +45,18 @@ fn made_word(
     order[j]
 }
 
-// The row of these owners.
-fn row_of(
-    group: GroupKey,
-    order: [u64; GROUP_WORDS],
-    old: [u64; GROUP_WORDS],
-    owners: &[u64],
-) -> [u64; GROUP_WORDS]
-    ensures { result ≡ made_row group.0 order old owners.now }
-{
-    let mut row = order;
-    let mut i: usize = 0;
-    while i < GROUP_WORDS {
-        row[i] = made_word(group, order, old, owners, i);
-        i += 1;
-    }
-    row
-}
-
 // A group's row: its key; a parameter that the order has, else the one that was there; these owners.
 pub fn made_row(
     group: GroupKey,
     order: [u64; GROUP_WORDS],
     old: [u64; GROUP_WORDS],
-    owners: Owners,
+    owners: &Owners,
 ) -> [u64; GROUP_WORDS]
-    ensures { result ≡ made_row group.0 order old (owners_held owners) }
+    ensures { result ≡ made_row group.0 order old (keys_held owners.now) }
 {
-    let key = owners.key;
-    let count = lesser(owners.count, MAX_OWNERS);
-    row_of(group, order, old, &key[..count])
+    let mut row = order;
+    for i in 0..GROUP_WORDS {
+        row[i] = made_word(group, order, old, owners.as_slice(), i);
+    }
+    row
 }

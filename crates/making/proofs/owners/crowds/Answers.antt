@@ -1,48 +1,44 @@
--- `making::owners::crowds` meets its contract: a group that is not there has room for all who come.
-use mathlib.Core.Path.{◌≡◌, sym}
-use mathlib.Core.Bool.{not}
-use mathlib.Core.List.{[]}
-use mathlib.Core.Option.{none}
-use Prim.Native.Nat.{◌≤◌}
+-- `making::owners::crowds` meets its contract: a group that is not there has none but those who come.
+use mathlib.Core.Path.{◌≡◌, refl, sym, ap, ◌∙◌}
+use mathlib.Core.Bool.{true}
+use mathlib.Core.List.{List, [], ◌∷◌}
+use Prim.Native.Nat.{ℕ, ◌+◌, ◌-◌, ◌≤◌}
 use native.Mathlib.Omega.{arith}
 use lib.Dec.{eqb, ltb}
-use lib.ListN.{length, length-take}
-use borrow.Author.Tests.{le-ltb}
-use Rattle.rules.specs.Lists.{mem}
-use Rattle.rules.specs.Written.{max_owners}
-use Rattle.rules.proofs.ListLaws.{length-keep}
-use Rattle.order.specs.Keys.{owners_held}
+use borrow.Author.Tests.{ltb-true, ltb-false, lt-ltb, le-ltb}
+use Rattle.rules.proofs.Tests.{split}
+use Rattle.rules.specs.Lists.{keep}
 use Rattle.store.specs.Storage.{group_of}
-use Rattle.store.specs.declared.Place.TheVariants.{Free}
-use Rattle.making.specs.Owners.{owner_total}
-use Rattle.store.proofs.PlaceLaws.{InLent, in_lent, at_lent}
-use borrow.Author.Rules.{rules}
+use Rattle.store.proofs.PlaceLaws.{at_place, no_place}
 use Rattle.making.proofs.owners.crowds.Goals as goal
+
+all-kept : (l : List ℕ) → keep (λ a. true) l ≡ l
+all-kept [] = refl
+all-kept (x ∷ l) = ap (λ (k : List ℕ). x ∷ k) (all-kept l)
+
+-- as many as there is still room for
+less-rest : (n held new : ℕ) → held ≤ n → ltb (n - held) new ≡ ltb n (held + new)
+less-rest n held new h = split (ltb n (held + new))
+    (λ p. let q = ltb-true n (held + new) p in lt-ltb (n - held) new (omega arith) ∙ sym p)
+    (λ p. let q = ltb-false n (held + new) p in le-ltb (n - held) new (omega arith) ∙ sym p)
 
 pub returns-in_default : goal.returns-in_default
 returns-in_default c =
-    let a = c.args in
-    let m : InLent ltb eqb group_of a.groups.now a.count (Free c.in_default.field-0) a.group.0 = rw c.in_default.is at
-    (in_lent ltb eqb group_of a.groups.now a.count _ a.group.0 c.group_place.ensures) in
-    let len : length a.come.key ≡ max_owners = search rules in
-    let few : owner_total none (owners_held a.come) ≤ max_owners =
-    omega (arith, length-keep (λ o. not (mem o [])) (owners_held a.come), length-take a.come.count a.come.key) in
-    rw m (sym (le-ltb max_owners (owner_total none (owners_held a.come)) few))
+    let m = no_place ltb eqb group_of c.args.groups.now c.args.group.0 [] _ _ c.in_default.is c.place.ensures in
+    rw (m, all-kept, ← c.len.ensures) (less-rest 16 0 c.len.result (omega arith))
 
 pub offset_bounds-groups-i : goal.offset_bounds-groups-i
 offset_bounds-groups-i c =
-    let a = c.args in
-    let r = at_lent ltb eqb group_of a.groups.now a.count _ a.group.0 c.in-At.i c.in-At.is c.group_place.ensures in
+    let r = at_place ltb eqb group_of c.args.groups.now c.args.group.0 [] c.in-Ok.i _ c.in-Ok.is c.place.ensures in
     omega (arith, r.inside)
 
 pub bounds-groups-i : goal.bounds-groups-i
 bounds-groups-i c =
-    let a = c.args in
-    let r = at_lent ltb eqb group_of a.groups.now a.count _ a.group.0 c.in-At.i c.in-At.is c.group_place.ensures in
+    let r = at_place ltb eqb group_of c.args.groups.now c.args.group.0 [] c.in-Ok.i _ c.in-Ok.is c.place.ensures in
     omega (arith, r.inside)
 
 pub returns : goal.returns
 returns c =
-    let a = c.args in
-    let r = at_lent ltb eqb group_of a.groups.now a.count _ a.group.0 c.in-At.i c.in-At.is c.group_place.ensures in
-    rw (r.found, ← c.held_count-held.ensures.0, ← c.new_owners.ensures.0)
+    let r = at_place ltb eqb group_of c.args.groups.now c.args.group.0 [] c.in-Ok.i _ c.in-Ok.is c.place.ensures in
+    let held = c.held_count-held in
+    rw (r.found, ← held.ensures.1, ← c.new_owners.ensures) (less-rest 16 held.result c.new_owners.result (omega (arith, held.ensures.0)))
