@@ -7,12 +7,13 @@ use mathlib.Core.List.{List, [], ◌∷◌, ◌++◌, append_assoc, append-nil}
 use native.Mathlib.Nat.{le-add_right, lt_of_lt_of_le}
 use native.Mathlib.Numerals.{add-one}
 use native.Mathlib.Omega.{arith}
+use borrow.Rule.Slice.PartMut.{put_mid}
 use lib.ListN.{length, get_or, take, drop, set, length-append, length-drop, length-take, take-append-drop}
 use lib.Pow.{high, low, pow_mono, shr_lt}
 use lib.Seq.{length-take-le, take-suc, take-take, take-add, take_at, take-set-le, drop-cons, drop-drop, drop_at, drop-set-lt, get_or-drop, get_or-set_same, lt-length-set, append_snoc}
 use Rattle.bits.specs.Bits.{digits, value, bits_of, bytes_of, Bytes}
 use Rattle.bits.specs.Field.{put_at}
-use Rattle.bits.specs.Window.{value_at, bytes_at, joined_bits, bytes_in, laid}
+use Rattle.bits.specs.Window.{value_at, joined_bits, bytes_in, laid}
 use Rattle.bits.proofs.Laws.{length_digits, value-lt, digits_value, digits_mod, value-digits, value-digits-mod, digits_append, value-append, length-bits_of, bits_of-append, bits_of-take, bits_of-drop, bytes_bits, put-inside}
 
 -- ---- reading
@@ -44,7 +45,7 @@ part-value l o w h =
 
 -- a field, from the `count` bytes that it lies in
 pub field-bytes : (bytes : List ℕ) (at w count : ℕ) → at / 8 + count ≤ length bytes → at % 8 + w ≤ 8 * count
-    → value_at bytes at w ≡ bytes_at bytes (at / 8) count / 2 ^ (8 * count - (at % 8 + w)) % 2 ^ w
+    → value_at bytes at w ≡ value (bits_of (take count (drop (at / 8) bytes))) / 2 ^ (8 * count - (at % 8 + w)) % 2 ^ w
 field-bytes bytes at w count h k =
     let o : ℕ = at % 8 in
     let rest : List ℕ = drop (at / 8) bytes in
@@ -58,25 +59,25 @@ field-bytes bytes at w count h k =
     ∙ part-value (bits_of (take count rest)) o w (omega arith)
     ∙ ap (λ (x : ℕ). value (bits_of (take count rest)) / 2 ^ (x - (o + w)) % 2 ^ w) size
 
-module _ (bytes : List ℕ) (first : ℕ) where
-  pub bytes_at-lt : (count : ℕ) → bytes_at bytes first count < 2 ^ (8 * count)
-  bytes_at-lt count =
-      let part : List ℕ = take count (drop first bytes) in
+module _ (bytes : List ℕ) where
+  -- the first bytes as a number
+  pub value-lt-first : (count : ℕ) → value (bits_of (take count bytes)) < 2 ^ (8 * count)
+  value-lt-first count =
+      let part : List ℕ = take count bytes in
       let short : length part ≤ count = rw length-take (omega arith) in
       lt_of_lt_of_le (value-lt (bits_of part)) (pow_mono (omega (arith, length-bits_of part)))
 
   -- one byte more
-  pub bytes_at-more : (j : ℕ) → first + j < length bytes → get_or bytes (first + j) 0 < 256 → bytes_at bytes first (j + 1) ≡ bytes_at bytes first j * 256 + get_or bytes (first + j) 0
+  pub value-more : (j : ℕ) → j < length bytes → get_or bytes j 0 < 256
+      → value (bits_of (take (j + 1) bytes)) ≡ value (bits_of (take j bytes)) * 256 + get_or bytes j 0
   unfolding bits_of
-  bytes_at-more j h k =
-      let rest : List ℕ = drop first bytes in
-      let b : ℕ = get_or bytes (first + j) 0 in
-      let more : j < length rest = omega (arith, length-drop first bytes) in
-      let next : take (j + 1) rest ≡ take j rest ++ (b ∷ []) = ap (λ (i : ℕ). take i rest) (add-one j) ∙ take-suc rest j 0 more ∙ ap (λ (x : ℕ). take j rest ++ (x ∷ [])) (get_or-drop first bytes j 0) in
+  value-more j h k =
+      let b : ℕ = get_or bytes j 0 in
+      let next : take (j + 1) bytes ≡ take j bytes ++ (b ∷ []) = ap (λ (i : ℕ). take i bytes) (add-one j) ∙ take-suc bytes j 0 h in
       ap (λ (l : List ℕ). value (bits_of l)) next
-      ∙ ap value (bits_of-append (take j rest) (b ∷ []) ∙ ap (λ (l : List Bool). bits_of (take j rest) ++ l) (append-nil (digits 8 b)))
-      ∙ value-append (bits_of (take j rest)) (digits 8 b)
-      ∙ ap₂ (λ (w : ℕ) (x : ℕ). value (bits_of (take j rest)) * 2 ^ w + x) (length_digits 8 b) (value-digits 8 b k)
+      ∙ ap value (bits_of-append (take j bytes) (b ∷ []) ∙ ap (λ (l : List Bool). bits_of (take j bytes) ++ l) (append-nil (digits 8 b)))
+      ∙ value-append (bits_of (take j bytes)) (digits 8 b)
+      ∙ ap₂ (λ (w : ℕ) (x : ℕ). value (bits_of (take j bytes)) * 2 ^ w + x) (length_digits 8 b) (value-digits 8 b k)
 
 -- ---- laying
 
@@ -92,19 +93,21 @@ bits-bytes_in (suc count) n =
     ∙ ap (λ (k : ℕ). digits k n) next
 
 -- the lowest byte is laid: one byte less is left to lay
-pub laid-turn : (out : List ℕ) (first left n : ℕ) → first + left < length out
-    → laid (set out (first + left) (n % 256)) first left (n / 256) ≡ laid out first (suc left) n
+pub lay-turn : (out : List ℕ) (left n : ℕ) → left < length out
+    → bytes_in left (n / 256) ++ drop left (set out left (n % 256)) ≡ bytes_in (suc left) n ++ drop (suc left) out
 unfolding bytes_in
-laid-turn out first left n h =
-    let p : ℕ = first + left in
+lay-turn out left n h =
     let x : ℕ = n % 256 in
     let rest : List ℕ = bytes_in left (n / 256) in
-    let end : drop p (set out p x) ≡ x ∷ drop (suc p) out =
-    drop-cons (set out p x) p 0 (lt-length-set out p x h) ∙ ap₂ ◌∷◌ (get_or-set_same out p x 0 h) (drop-set-lt (suc p) out p x (omega arith)) in
-    let next : suc p ≡ first + suc left = omega arith in
-    ap₂ (λ (a : List ℕ) (b : List ℕ). a ++ rest ++ b) (take-set-le first out p x (le-add_right first left)) end
-    ∙ sym (append_snoc (take first out ++ rest) x (drop (suc p) out))
-    ∙ ap₂ (λ (a : List ℕ) (k : ℕ). a ++ drop k out) (append_assoc (take first out) rest (x ∷ [])) next
+    let end : drop left (set out left x) ≡ x ∷ drop (suc left) out =
+    drop-cons (set out left x) left 0 (lt-length-set out left x h) ∙ ap₂ ◌∷◌ (get_or-set_same out left x 0 h) (drop-set-lt (suc left) out left x (omega arith)) in
+    ap (λ (l : List ℕ). rest ++ l) end ∙ sym (append_snoc rest x (drop (suc left) out))
+
+-- a part of `out`, of k bytes, once a number is laid into it
+pub laid-part : (out part : List ℕ) (first k count n : ℕ) → k ≡ count → part ≡ bytes_in count n → put_mid first k out part ≡ laid out first count n
+laid-part out part first k count n e f =
+    ap₂ (λ (l : List ℕ) (r : List ℕ). take first out ++ (l ++ r)) f (drop-drop k first out ∙ ap (λ (m : ℕ). drop (first + m) out) e)
+    ∙ sym (append_assoc (take first out) (bytes_in count n) (drop (first + count) out))
 
 -- a byte in two parts, with what comes after it
 module _ (bytes : List ℕ) (q j k : ℕ) (h : q < length bytes) (e : j + k ≡ 8) where

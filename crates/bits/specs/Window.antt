@@ -7,10 +7,6 @@ use Rattle.bits.specs.Bits.{digits, value, bits_of}
 abbrev pub value_at : List ℕ → ℕ → ℕ → ℕ
 value_at bytes at width = value (take width (drop at (bits_of bytes)))
 
--- `count` bytes from `first` on, as a number
-abbrev pub bytes_at : List ℕ → ℕ → ℕ → ℕ
-bytes_at bytes first count = value (bits_of (take count (drop first bytes)))
-
 -- the highest `from` bits of a byte, the lowest `width` of v, and the lowest `after` of another byte, as a number
 abbrev pub joined_bits : ℕ → ℕ → ℕ → ℕ → ℕ → ℕ → ℕ
 joined_bits first from v width last after = value (digits from (first / 2 ^ (8 - from)) ++ digits width v ++ digits after last)

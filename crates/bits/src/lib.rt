@@ -4,7 +4,8 @@
 // A field lies in one to five whole bytes. These are taken as one number, to read the field and to lay it.
 ghost use Rattle.std.specs.Prelude.{◌≡◌, ◌+◌, ◌*◌, ◌%◌, ◌^◌, ◌≤◌, ◌<◌, length};
 ghost use Rattle.bits.specs.Field.{field_at, first_two, put_at};
-ghost use Rattle.bits.specs.Window.{value_at, bytes_at, joined_bits, laid};
+ghost use Rattle.bits.specs.Bits.{value, bits_of};
+ghost use Rattle.bits.specs.Window.{value_at, joined_bits, bytes_in};
 
 // The lowest `n` bits of `x`.
 fn low(x: u64, n: usize) -> u64
@@ -14,43 +15,16 @@ fn low(x: u64, n: usize) -> u64
     x % (1u64 << n)
 }
 
-// A byte as a wider number.
-fn wide(b: u8) -> u64
-    ensures { result ≡ b }
+// Up to five bytes as one number.
+fn joined_bytes(bytes: &[u8]) -> u64
+    requires { length bytes.now ≤ 5 }
+    ensures { result ≡ value (bits_of bytes.now) }
 {
-    b as u64
-}
-
-// The number of the first `j + 1` bytes from `first` on, made of `sum`, that of the first `j`.
-fn one_more(frame: &[u8], first: usize, j: usize, sum: u64) -> u64
-    requires { (first + j < length frame.now) × (j < 5) × (sum ≡ bytes_at frame.now first j) }
-    ensures { result ≡ bytes_at frame.now first (j + 1) }
-{
-    sum * 256 + wide(frame[first + j])
-}
-
-// `count` bytes from `first` on, one to five, as one number.
-fn whole_bytes(frame: &[u8], first: usize, count: usize) -> u64
-    requires { (first + count ≤ length frame.now) × (0 < count) × (count ≤ 5) }
-    ensures { result ≡ bytes_at frame.now first count }
-{
-    let one = one_more(frame, first, 0, 0);
-    if count == 1 {
-        return one;
+    let mut number = 0;
+    for &byte in bytes {
+        number = number * 256 + u64::from(byte);
     }
-    let two = one_more(frame, first, 1, one);
-    if count == 2 {
-        return two;
-    }
-    let three = one_more(frame, first, 2, two);
-    if count == 3 {
-        return three;
-    }
-    let four = one_more(frame, first, 3, three);
-    if count == 4 {
-        return four;
-    }
-    one_more(frame, first, 4, four)
+    number
 }
 
 // The number in the `width` bits from `at` on.
@@ -61,9 +35,10 @@ fn field_value(frame: &[u8], at: usize, width: usize) -> u32
     if width == 0 {
         return 0;
     }
+    let first = at / 8;
     let from = at % 8;
     let count = (from + width + 7) / 8;
-    let whole = whole_bytes(frame, at / 8, count);
+    let whole = joined_bytes(&frame[first..first + count]);
     low(whole >> (8 * count - (from + width)), width) as u32
 }
 
@@ -155,37 +130,15 @@ fn joined(first: u8, from: usize, value: u32, width: usize, last: u8, after: usi
     join(join(before, value as u64, width), last as u64, after)
 }
 
-// Lays the lowest byte of `rest` after the `left` bytes from `first` on, and returns what is left for those.
-fn lay_byte(out: &mut [u8], first: usize, left: usize, rest: u64) -> u64
-    requires { first + left < length out.old }
-    ensures { laid out.new first left result ≡ laid out.old first (left + 1) rest }
+// Lays a number into bytes, the lowest last.
+fn lay_number(bytes: &mut [u8], number: u64)
+    ensures { bytes.new ≡ bytes_in (length bytes.old) number }
 {
-    out[first + left] = (rest % 256) as u8;
-    rest / 256
-}
-
-// Lays a number into `count` bytes from `first` on, one to five, the lowest last.
-fn lay_bytes(out: &mut [u8], first: usize, count: usize, number: u64)
-    requires { (first + count ≤ length out.old) × (0 < count) × (count ≤ 5) }
-    ensures { out.new ≡ laid out.old first count number }
-{
-    let one = lay_byte(&mut *out, first, count - 1, number);
-    if count == 1 {
-        return;
+    let mut rest = number;
+    for i in (0..bytes.len()).rev() {
+        bytes[i] = (rest % 256) as u8;
+        rest /= 256;
     }
-    let two = lay_byte(&mut *out, first, count - 2, one);
-    if count == 2 {
-        return;
-    }
-    let three = lay_byte(&mut *out, first, count - 3, two);
-    if count == 3 {
-        return;
-    }
-    let four = lay_byte(&mut *out, first, count - 4, three);
-    if count == 4 {
-        return;
-    }
-    lay_byte(out, first, count - 5, four);
 }
 
 // Lays the lowest `width` bits of `value` into the bits of `out` from `at` on.
@@ -214,5 +167,5 @@ pub fn put_field(out: &mut [u8], at: usize, width: usize, value: u32)
         out[first + count - 1],
         after,
     );
-    lay_bytes(out, first, count, number);
+    lay_number(&mut out[first..first + count], number);
 }

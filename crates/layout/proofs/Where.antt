@@ -204,14 +204,14 @@ module _ {kind : Kind} {bits : List Bool} {at : ℕ} {done : List ℕ} {rest : L
             (row (row_of kind k).width (row_of kind k).first (row_of kind k).codes Reserved 0 (row_of kind k).hang)))
             → row_before kind k ≡ cond t (m_bit (place_of (row_of kind k).hang)) (cond u (choice 1 2 []) (row_before kind k))
             → Refuses kind bits (row_of kind k).refusal (at - (row_of kind k).back)
-        go true t u n e last =
+        go true t u n e before =
             let m = m-bit b _ e (subst (Faulty done rest) e f) in
             seven (ap (λ (x : Row). x.refusal) e) (subst (λ (p : ℕ). AtMBit kind bits p true) (sym (unmoved (ap (λ (x : Row). x.back) e))) m)
-        go false true u n e last =
-            let m = behind-m-bit k _ inside b last (subst (λ (x : Row). present done x.hang ≡ true) e f.on) in
+        go false true u n e before =
+            let m = behind-m-bit k _ inside b before (subst (λ (x : Row). present done x.hang ≡ true) e f.on) in
             six (ap (λ (x : Row). x.refusal) e) (subst (λ (x : Row). Empty kind bits (at - x.back)) (sym e) m)
-        go false false true n e last = behind-given k _ inside b last (eqb-true _ _ n) e f.on
-        go false false false n e last =
+        go false false true n e before = behind-given k _ inside b before (eqb-true _ _ n) e f.on
+        go false false false n e before =
             let plain : (row_of kind k).refusal ≡ Reserved = ap (λ (x : Row). x.refusal) e in
             four plain (subst (NoMeaning kind bits) (sym (unmoved (ap (λ (x : Row). x.back) e))) (reserved b f plain))
 

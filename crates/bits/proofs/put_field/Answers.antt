@@ -1,14 +1,15 @@
 -- `bits::put_field` meets its contract: once the bytes that the field lies in are laid anew, the bits are those of `put_at`, and bytes are told by their bits.
 -- Assumes nothing.
 use mathlib.Core.Path.{◌≡◌, ap, sym, ◌∙◌}
-use Prim.Native.Nat.{ℕ, ◌+◌}
+use Prim.Native.Nat.{ℕ, ◌+◌, ◌-◌, ◌/◌, ◌%◌}
 use mathlib.Core.List.{[], ◌++◌}
 use native.Mathlib.Omega.{arith}
-use lib.ListN.{take, drop}
-use lib.Seq.{paste-zero}
+use lib.ListN.{length, take, drop, length-drop}
+use lib.Seq.{paste-zero, length-take-le}
 use Rattle.bits.specs.Bits.{digits, bits_of}
 use Rattle.bits.proofs.Laws.{put-wide, put-past}
-use Rattle.bits.proofs.Windows.{put-told, put-laid}
+use Rattle.bits.specs.Window.{bytes_in}
+use Rattle.bits.proofs.Windows.{put-told, put-laid, laid-part}
 use Rattle.bits.proofs.put_field.Goals as goal
 
 pub returns-then-width-gt32 : goal.returns-then-width-gt32
@@ -29,5 +30,13 @@ returns-then-width-eq0 c =
 pub returns : goal.returns
 returns c =
     let a = c.args in
-    put-laid a.out.now c.lay_bytes.new.out a.at a.width a.value (omega arith) (omega arith) (omega arith) (λ i. (c.type_inv.out i).fits)
-    c.joined-number.result c.joined-number.ensures c.lay_bytes.ensures
+    let out = a.out.now in
+    let first : ℕ = a.at / 8 in
+    let count : ℕ = (a.at % 8 + a.width + 7) / 8 in
+    let size : first + count - first ≡ count = omega arith in
+    let part : length (take (first + count - first) (drop first out)) ≡ count =
+    ap (λ (k : ℕ). length (take k (drop first out))) size ∙ length-take-le count (drop first out) (omega (arith, length-drop first out)) in
+    put-laid out _ a.at a.width a.value (omega arith) (omega arith) (omega arith) (λ i. (c.type_inv.out i).fits)
+    c.joined-number.result c.joined-number.ensures
+    (laid-part out c.lay_number.new.bytes first (first + count - first) count c.joined-number.result size
+    (c.lay_number.ensures ∙ ap (λ (k : ℕ). bytes_in k c.joined-number.result) part))
