@@ -42,27 +42,7 @@ fn field_value(frame: &[u8], at: usize, width: usize) -> u32
     low(whole >> (8 * count - (from + width)), width) as u32
 }
 
-// The field of `width` bits at `at` in the first `bits` bits of `frame`; none where the bits end inside it, or it is wider than 32 bits.
-fn field_at(frame: &[u8], bits: usize, at: usize, width: usize) -> Option<u32>
-    ensures { result ≡ field_at frame.now bits at width }
-{
-    if frame.len() < bits / 8 + (bits % 8 + 7) / 8 {
-        return None;
-    }
-    if bits < at {
-        return None;
-    }
-    if bits - at < width {
-        return None;
-    }
-    if 32 < width {
-        return None;
-    }
-    Some(field_value(frame, at, width))
-}
-
 // A frame, its bit count and the place of the next field, kept together.
-// Its methods are thin: the work is `field_at`'s, on the slice and the numbers.
 #[derive(Clone, Copy)]
 pub struct Reader<'a> {
     pub frame: &'a [u8],
@@ -85,11 +65,15 @@ impl<'a> Reader<'a> {
         Reader { at, ..self }
     }
 
-    // The field of `width` bits at the reader's place.
+    // The field of `width` bits at the reader's place; none where the bits end inside it, or it is wider than 32 bits.
     pub fn take(self, width: usize) -> Option<u32>
         ensures { result ≡ field_at self.entry.frame.now self.entry.bits self.entry.at width }
     {
-        field_at(self.frame, self.bits, self.at, width)
+        let Reader { frame, bits, at } = self;
+        if frame.len() < bits.div_ceil(8) || bits < at || bits - at < width || 32 < width {
+            return None;
+        }
+        Some(field_value(frame, at, width))
     }
 }
 
