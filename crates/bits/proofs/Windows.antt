@@ -4,13 +4,14 @@ use Prim.Native.Nat.{ℕ, zero, suc, ◌+◌, ◌-◌, ◌*◌, ◌/◌, ◌%◌
 use mathlib.Core.Path.{◌≡◌, refl, ap, ap₂, sym, ◌∙◌, subst}
 use mathlib.Core.Bool.{Bool}
 use mathlib.Core.List.{List, [], ◌∷◌, ◌++◌, append_assoc, append-nil}
-use native.Mathlib.Nat.{le-add_right, lt_of_lt_of_le}
+use native.Mathlib.Nat.{lt_of_lt_of_le}
 use native.Mathlib.Numerals.{add-one}
 use native.Mathlib.Omega.{arith}
 use borrow.Rule.Slice.PartMut.{put_mid}
 use lib.ListN.{length, get_or, take, drop, set, length-append, length-drop, length-take, take-append-drop}
 use lib.Pow.{high, low, pow_mono, shr_lt}
-use lib.Seq.{length-take-le, take-suc, take-take, take-add, take_at, take-set-le, drop-cons, drop-drop, drop_at, drop-set-lt, get_or-drop, get_or-set_same, lt-length-set, append_snoc}
+use lib.Seq.{length-take-le, take-suc, take-take, take-add, take_at, drop-cons, drop-drop, drop_at, drop-set-lt, get_or-set_same, lt-length-set, append_snoc}
+use Rattle.std.specs.Int.{div_ceil}
 use Rattle.bits.specs.Bits.{digits, value, bits_of, bytes_of, Bytes}
 use Rattle.bits.specs.Field.{put_at}
 use Rattle.bits.specs.Window.{value_at, joined_bits, bytes_in, laid}
@@ -182,14 +183,12 @@ pub put-told : (out new : List ℕ) (at w v : ℕ) → at + w ≤ 8 * length out
 put-told out new at w v h k bytes e = sym (bytes_bits new bytes) ∙ ap bytes_of e ∙ sym (put-inside out at w v h k)
 
 -- a field is put once the bytes that it lies in are laid anew
-pub put-laid : (out new : List ℕ) (at w v : ℕ) → 0 < w → w ≤ 32 → at + w ≤ 8 * length out → Bytes new
+pub put-laid : (out new : List ℕ) (at w v count : ℕ) → 0 < w → w ≤ 32 → at + w ≤ 8 * length out → Bytes new → count ≡ div_ceil (at % 8 + w) 8
     → let first = at / 8 in
     let from = at % 8 in
-    let count = (from + w + 7) / 8 in
     (number : ℕ) → number ≡ joined_bits (get_or out first 0) from v w (get_or out (first + count - 1) 0) (8 * count - (from + w))
     → new ≡ laid out first count number → new ≡ put_at out at w v
-put-laid out new at w v some narrow inside bytes number e l =
-    let count : ℕ = (at % 8 + w + 7) / 8 in
+put-laid out new at w v count some narrow inside bytes size number e l =
     put-told out new at w v inside narrow bytes
     (ap bits_of (l ∙ ap (laid out (at / 8) count) e)
     ∙ laid-field out at w v (at / 8) (at % 8) count (8 * count - (at % 8 + w)) (omega arith) (omega arith) (omega arith) (omega arith) (omega arith) (omega arith))

@@ -37,7 +37,7 @@ fn field_value(frame: &[u8], at: usize, width: usize) -> u32
     }
     let first = at / 8;
     let from = at % 8;
-    let count = (from + width + 7) / 8;
+    let count = (from + width).div_ceil(8);
     let whole = joined_bytes(&frame[first..first + count]);
     low(whole >> (8 * count - (from + width)), width) as u32
 }
@@ -78,6 +78,7 @@ impl<'a> Reader<'a> {
 }
 
 // The field of `width` bits at `at` of a frame, through a reader. Whoever calls it needs no reader of their own.
+// Stays: frame and bit count are any that a caller has, as field-from-unique says; `Reader` is the struct that keeps them together.
 pub fn field_from(frame: &[u8], bits: usize, at: usize, width: usize) -> Option<u32>
     ensures { result ≡ field_at frame.now bits at width }
 {
@@ -85,6 +86,7 @@ pub fn field_from(frame: &[u8], bits: usize, at: usize, width: usize) -> Option<
 }
 
 // The two fields at the first bits of a frame, one behind the other, through one reader, which is taken from, moved and taken from again.
+// Stays: frame and bit count are any that a caller has, as first-two-unique says.
 pub fn first_two(
     frame: &[u8],
     bits: usize,
@@ -135,7 +137,7 @@ pub fn put_field(out: &mut [u8], at: usize, width: usize, value: u32)
     }
     let first = at / 8;
     let from = at % 8;
-    let count = (from + width + 7) / 8;
+    let count = (from + width).div_ceil(8);
     if out.len() < first + count {
         return;
     }

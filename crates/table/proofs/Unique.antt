@@ -1,11 +1,10 @@
 -- Any two results that a function's contract allows are equal. `Post` is a contract's claim as the checker reads it.
 -- Assumes nothing.
-use Prim.Native.Nat.{ℕ}
 use mathlib.Core.Path.{◌≡◌, sym, ◌∙◌}
-use mathlib.Core.List.{List}
-use borrow.Fn.Kinds.{ParamKind, ResultKind, Dens, res_t, ended_of}
+use borrow.Fn.Kinds.{Dens, res_t, ended_of}
 use contract.Lifetimes.{Lfts}
 use denote.Triple.Clauses.{AtExit}
+use Rattle.refusal.proofs.Unique.{Unique}
 use Rattle.table.proofs.fields.count_field.Kinds as count-field-kinds
 use Rattle.table.proofs.fields.count_field.Reads as count-field
 use Rattle.table.proofs.fields.number.Kinds as number-kinds
@@ -32,12 +31,6 @@ use Rattle.table.proofs.tests.there.Kinds as there-kinds
 use Rattle.table.proofs.tests.there.Reads as there
 use Rattle.table.proofs.tests.nothing_since.Kinds as nothing-since-kinds
 use Rattle.table.proofs.tests.nothing_since.Reads as nothing-since
-
--- of any arguments, at any exits, what the claim allows is one result
-abbrev pub Unique : {n : ℕ} (ps : List (ParamKind n)) (res : ResultKind n)
-    → ((κs : Lfts n) → Dens κs ps → (res_t res κs).Denot → AtExit (ended_of n ps res) κs → Type 0) → Type 0
-Unique {n} ps res Post =
-    (κs : Lfts n) (a : Dens κs ps) (r r' : (res_t res κs).Denot) (s s' : AtExit (ended_of n ps res) κs) → Post κs a r s → Post κs a r' s' → r ≡ r'
 
 pub count-field-unique : Unique count-field-kinds.ps count-field-kinds.r count-field.Post
 count-field-unique κs a r r' s s' p q = p ∙ sym q

@@ -16,9 +16,9 @@ pub returns : goal.returns
 returns c =
     let a = c.args in
     let from : ℕ = a.at % 8 in
-    let count : ℕ = (from + a.width + 7) / 8 in
+    let count = c.div_ceil-count.result in
     let size : a.at / 8 + count - a.at / 8 ≡ count = omega arith in
     c.low.ensures
     ∙ ap (λ (x : ℕ). x / 2 ^ (8 * count - (from + a.width)) % 2 ^ a.width)
     (c.joined_bytes-whole.ensures ∙ ap (λ (k : ℕ). value (bits_of (take k (drop (a.at / 8) a.frame.now)))) size)
-    ∙ sym (field-bytes a.frame.now a.at a.width count (omega arith) (omega arith))
+    ∙ sym (field-bytes a.frame.now a.at a.width count (omega (arith, c.div_ceil-count.ensures)) (omega (arith, c.div_ceil-count.ensures)))

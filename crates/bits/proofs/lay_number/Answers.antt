@@ -1,10 +1,10 @@
 -- `bits::lay_number` meets its contract: the law of one byte laid, `lay-turn`.
 -- Assumes nothing.
-use mathlib.Core.Path.{◌≡◌, ap, ap₂, sym, ◌∙◌}
+use mathlib.Core.Path.{◌≡◌, ap, ◌∙◌}
 use mathlib.Core.List.{List, append-nil, ◌++◌}
-use Prim.Native.Nat.{ℕ, suc, ◌-◌, ◌/◌, ◌%◌}
+use Prim.Native.Nat.{ℕ, suc, ◌-◌}
 use native.Mathlib.Omega.{arith}
-use lib.ListN.{length, drop, set, drop_of_length-le}
+use lib.ListN.{length, drop, drop_of_length-le}
 use Rattle.bits.specs.Window.{bytes_in}
 use Rattle.bits.proofs.Windows.{lay-turn}
 use Rattle.bits.proofs.lay_number.Goals as goal

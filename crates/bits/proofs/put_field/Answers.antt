@@ -1,7 +1,7 @@
 -- `bits::put_field` meets its contract: once the bytes that the field lies in are laid anew, the bits are those of `put_at`, and bytes are told by their bits.
 -- Assumes nothing.
 use mathlib.Core.Path.{◌≡◌, ap, sym, ◌∙◌}
-use Prim.Native.Nat.{ℕ, ◌+◌, ◌-◌, ◌/◌, ◌%◌}
+use Prim.Native.Nat.{ℕ, ◌+◌, ◌-◌, ◌/◌}
 use mathlib.Core.List.{[], ◌++◌}
 use native.Mathlib.Omega.{arith}
 use lib.ListN.{length, take, drop, length-drop}
@@ -32,11 +32,11 @@ returns c =
     let a = c.args in
     let out = a.out.now in
     let first : ℕ = a.at / 8 in
-    let count : ℕ = (a.at % 8 + a.width + 7) / 8 in
+    let count = c.div_ceil-count.result in
     let size : first + count - first ≡ count = omega arith in
     let part : length (take (first + count - first) (drop first out)) ≡ count =
     ap (λ (k : ℕ). length (take k (drop first out))) size ∙ length-take-le count (drop first out) (omega (arith, length-drop first out)) in
-    put-laid out _ a.at a.width a.value (omega arith) (omega arith) (omega arith) (λ i. (c.type_inv.out i).fits)
+    put-laid out _ a.at a.width a.value count (omega arith) (omega arith) (omega (arith, c.div_ceil-count.ensures)) (λ i. (c.type_inv.out i).fits) c.div_ceil-count.ensures
     c.joined-number.result c.joined-number.ensures
     (laid-part out c.lay_number.new.bytes first (first + count - first) count c.joined-number.result size
     (c.lay_number.ensures ∙ ap (λ (k : ℕ). bytes_in k c.joined-number.result) part))
