@@ -9,6 +9,7 @@ ghost use Rattle.making.specs.Row.{keeps_word, made_word, made_row};
 
 use order::{GroupKey, Owners};
 use rows::{FIRST_OWNER, GROUP_WORDS, KEY_WORD, NAME_LENGTH, OWNER_COUNT};
+use std::array;
 
 // Whether a parameter's word stays: the order has none.
 fn keeps_word(order: [u64; GROUP_WORDS], j: usize) -> bool
@@ -54,9 +55,5 @@ pub fn made_row(
 ) -> [u64; GROUP_WORDS]
     ensures { result ≡ made_row group.0 order old (keys_held owners.now) }
 {
-    let mut row = order;
-    for i in 0..GROUP_WORDS {
-        row[i] = made_word(group, order, old, owners.as_slice(), i);
-    }
-    row
+    array::from_fn(|j| made_word(group, order, old, owners.as_slice(), j))
 }
