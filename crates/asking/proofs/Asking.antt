@@ -1,34 +1,39 @@
 -- Laws of what a question is refused with, by whose the group is.
 use mathlib.Core.Path.{◌≡◌, sym, ◌∙◌}
-use mathlib.Core.Bool.{false, ◌||◌}
+use mathlib.Core.Bool.{false}
 use mathlib.Core.Option.{none}
 use Prim.Native.Nat.{ℕ}
 use lib.Dec.{eqb, ltb}
+use lib.ListN.{take}
+use mathlib.Core.List.{map}
+use Rattle.std.specs.Prelude.{Result, Ok, ⊤}
+use Rattle.refusal.specs.declared.Refusal.{Refusal}
 use Rattle.rules.specs.Number.{key, wide_number}
 use Rattle.rules.specs.Refusals.{show_refusal}
 use Rattle.rules.specs.Ledger.{view}
 use Rattle.order.specs.Numbers.{radio_number, group_number}
 use Rattle.order.specs.declared.Gtsi.{Gtsi}
 use Rattle.order.specs.declared.Itsi.{Itsi}
-use Rattle.store.specs.Storage.{Contents, ledger_of}
+use Rattle.store.specs.Storage.{Rows, Contents, group_of, group_count, ledger_of}
 use Rattle.store.specs.Form.{Sound}
 use Rattle.store.specs.Places.{looked_up}
 use Rattle.store.specs.Named.{owned_as}
 use Rattle.store.specs.declared.Owned.{Owned}
-use Rattle.replies.specs.Orders.{reply_of, judged, JudgesAsker}
-use Rattle.replies.specs.declared.Reply.{Reply}
-use Rattle.replies.specs.declared.Reply.TheVariants.{Done}
+use Rattle.replies.specs.Orders.{JudgesAsker}
 use Rattle.replies.proofs.Orders.{reply-none}
 use Rattle.replies.proofs.Owned.{owned_reply, owned-replies}
 
-module _ (c : Contents) (asker : Itsi) (group : Gtsi) (w : Sound c) (n : (wide_number (radio_number asker) || wide_number (group_number group)) ≡ false) where
-  pub asked-owned : (g a : ℕ) → g ≡ key (group_number group) → a ≡ key (radio_number asker)
-      → (o x : Owned) → x ≡ o → x ≡ owned_as (looked_up ltb eqb (ledger_of c).groups g) a
-      → owned_reply o ≡ reply_of (judged c (show_refusal (view (ledger_of c)) (radio_number asker) (group_number group)))
-  asked-owned g a p q o x d e = rw (w.form, n, ← p, ← q) (owned-replies c w g a o (sym d ∙ e))
+-- in its ranges, on contents in their form, a question is judged by whose the group is
+pub asked-owned : (c : Contents) (asker : Itsi) (group : Gtsi) → Sound c → wide_number (radio_number asker) ≡ false → wide_number (group_number group) ≡ false
+    → (rows : Rows) (g a : ℕ) → rows ≡ take (group_count c) c.groups → g ≡ key (group_number group) → a ≡ key (radio_number asker)
+    → (x : Owned) → x ≡ owned_as (looked_up ltb eqb (map group_of rows) g) a → (o : Owned) → x ≡ o → JudgesAsker c asker group (owned_reply o)
+asked-owned c asker group w m n rows g a l p q x e o d = record {
+  judges = rw (w.form, m, n, ← p, ← q) (owned-replies c w g a o (sym d ∙ rw l at e));
+  sound = λ k. w;
+}
 
 -- a question that is not refused passes its tests
-pub asked-none : (c : Contents) (asker : Itsi) (group : Gtsi) {reply : Reply} → JudgesAsker c asker group reply → reply ≡ Done
+pub asked-none : (c : Contents) (asker : Itsi) (group : Gtsi) {reply : Result ⊤ Refusal} → JudgesAsker c asker group reply → reply ≡ Ok tt
     → show_refusal (view (ledger_of c)) (radio_number asker) (group_number group) ≡ none
 asked-none c asker group j done =
     reply-none (show_refusal (view (ledger_of c)) (radio_number asker) (group_number group)) (rw (j.sound done).form at (sym done ∙ j.judges))

@@ -1,6 +1,6 @@
 -- Laws of the questions.
 pub mod Asking
-pub mod Copied
 pub mod Listing
+pub mod Mapped
 pub mod Showing
 pub mod Unique

@@ -1,2 +1,2 @@
 -- The definitions that the contracts of a list cite.
-pub mod Copied
+pub mod Listed

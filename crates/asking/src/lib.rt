@@ -3,78 +3,64 @@
 // The questions: a group's radios, and a group's owners and parameters, for one of its owners.
 mod telling;
 
-ghost use Rattle.std.specs.Prelude.{◌≤◌, length, ◌≡◌};
+ghost use Rattle.std.specs.Prelude.{◌≤◌, length, map, ◌≡◌};
 ghost use Rattle.order.specs.Numbers.{asked_group};
 ghost use Rattle.order.specs.Walks.{onto};
-ghost use Rattle.store.specs.Storage.{contents};
+ghost use Rattle.store.specs.Lent.{contents_of};
+ghost use Rattle.store.specs.Storage.{contents, pair_of};
 ghost use Rattle.replies.specs.Listing.{entry_row, Enumerates};
 ghost use Rattle.replies.specs.Orders.{JudgesAsker};
 ghost use Rattle.replies.specs.Showing.{show_on, shown_of};
-ghost use Rattle.asking.specs.Copied.{InStretch, copied};
+ghost use Rattle.asking.specs.Listed.{listed};
 
-use crate::telling::{shown_none, shown_row};
-use order::keys::{asked_group, group_key, radio_key, radio_of};
+use crate::telling::shown_row;
+use order::keys::asked_group;
 use order::lists::{wide_group, wide_radio};
 use order::{GroupAsked, GroupKey, Gtsi, Itsi, RadioKey};
 use refusal::Refusal;
-use replies::{Members, Reply, Shown};
-use rows::{ENTRY_WORDS, GROUP_COUNT, GROUP_WORDS, PAIR_COUNT, PAIR_RADIO, PAIR_WORDS};
-use store::form::written;
+use replies::Shown;
+use rows::{ENTRY_WORDS, GROUP_WORDS, PAIR_RADIO, PAIR_STATE, PAIR_WORDS};
+use store::Owned;
+use store::form::Lent;
 use store::named::owned_by;
-use store::places::{group_place, state_in, stretch_of};
-use store::{Found, Owned, Place};
+use store::places::{place, stretch_of};
 
 // What a list or a show is refused with, room apart.
-fn ask_fault(
-    head: &[u64],
-    groups: &[[u64; GROUP_WORDS]],
-    pairs: &[[u64; PAIR_WORDS]],
-    asker: Itsi,
-    group: Gtsi,
-) -> Reply
-    ensures { JudgesAsker (contents head.now groups.now pairs.now) asker group result }
+fn ask_fault(lent: Lent<'_>, asker: Itsi, group: Gtsi) -> Result<(), Refusal>
+    ensures { JudgesAsker (contents_of lent.entry) asker group result }
 {
-    if !written(head, groups, pairs) {
-        return Reply::Refused(Refusal::NotWritten);
+    if !lent.written() {
+        return Err(Refusal::NotWritten);
     }
-    let bad = wide_radio(asker) | wide_group(group);
-    if bad {
-        return Reply::Refused(Refusal::BadOrder);
+    if wide_radio(asker) || wide_group(group) {
+        return Err(Refusal::BadOrder);
     }
-    let count = head[GROUP_COUNT];
-    match owned_by(groups, count as usize, group_key(group), radio_key(asker)) {
-        Owned::Absent => Reply::Refused(Refusal::NoSuchGroup),
-        Owned::Own => Reply::Done,
-        Owned::Other => Reply::Refused(Refusal::NotOwner),
+    match owned_by(
+        lent.group_rows(),
+        GroupKey::from(group),
+        RadioKey::from(asker),
+    ) {
+        Owned::Absent => Err(Refusal::NoSuchGroup),
+        Owned::Own => Ok(()),
+        Owned::Other => Err(Refusal::NotOwner),
     }
 }
 
-// A radio and its state, as a row of the room.
-fn entry_row(radio: RadioKey, state: u64) -> [u64; ENTRY_WORDS]
-    ensures { result ≡ entry_row (radio.0, state) }
+// A pair's radio and its state, as a row of the room.
+fn entry_row(pair: &[u64; PAIR_WORDS]) -> [u64; ENTRY_WORDS]
+    ensures { result ≡ entry_row (listed (pair_of pair.now)) }
 {
-    let number = radio_of(radio);
-    [number.0 as u64, number.1 as u64, state]
+    let radio = Itsi::from(RadioKey(pair[PAIR_RADIO]));
+    [radio.0 as u64, radio.1 as u64, pair[PAIR_STATE]]
 }
 
-// A stretch of a group's pairs is copied: each radio with its state.
-fn copy_stretch(
-    pairs: &[[u64; PAIR_WORDS]],
-    from: usize,
-    count: usize,
-    group: GroupKey,
-    out: &mut [[u64; ENTRY_WORDS]],
-)
-    requires { InStretch group.0 from count pairs.now × (count ≤ length out.old) }
-    ensures { out.new ≡ onto (copied from count pairs.now) out.old }
+// Pairs are listed at the front of the room.
+fn list_pairs(pairs: &[[u64; PAIR_WORDS]], out: &mut [[u64; ENTRY_WORDS]])
+    requires { length pairs.now ≤ length out.old }
+    ensures { out.new ≡ onto (map (λ row. entry_row (listed (pair_of row))) pairs.now) out.old }
 {
-    let mut i: usize = 0;
-    while i < count {
-        let row = pairs[from + i];
-        if let Found::Held(state) = state_in(row, group, RadioKey(row[PAIR_RADIO])) {
-            out[i] = entry_row(RadioKey(row[PAIR_RADIO]), state);
-        }
-        i += 1;
+    for (i, pair) in pairs.iter().enumerate() {
+        out[i] = entry_row(pair);
     }
 }
 
@@ -86,24 +72,25 @@ pub fn list(
     asker: Itsi,
     asked: GroupAsked,
     out: &mut [[u64; ENTRY_WORDS]],
-) -> Members
+) -> Result<usize, Refusal>
     ensures { Enumerates (contents head.now groups.now pairs.now) asker (asked_group asker asked)
         out.old out.new result }
 {
+    let lent = Lent {
+        head,
+        groups,
+        pairs,
+    };
     let group = asked_group(asker, asked);
-    let fault = ask_fault(head, groups, pairs, asker, group);
-    if let Reply::Refused(refusal) = fault {
-        return Members::Refused(refusal);
+    ask_fault(lent, asker, group)?;
+    let pairs = lent.pair_rows();
+    let stretch = stretch_of(pairs, GroupKey::from(group));
+    let members = &pairs[stretch.from..stretch.to];
+    if out.len() < members.len() {
+        return Err(Refusal::NoRoom);
     }
-    let count = head[PAIR_COUNT];
-    let key = group_key(group);
-    let stretch = stretch_of(pairs, count as usize, key);
-    let listed = stretch.to - stretch.from;
-    if out.len() < listed {
-        return Members::Refused(Refusal::NoRoom);
-    }
-    copy_stretch(pairs, stretch.from, listed, key, out);
-    Members::Radios(listed)
+    list_pairs(members, out);
+    Ok(members.len())
 }
 
 // A group's owners and parameters, for one of its owners.
@@ -113,17 +100,18 @@ pub fn show(
     pairs: &[[u64; PAIR_WORDS]],
     asker: Itsi,
     asked: GroupAsked,
-) -> Shown
+) -> Result<Shown, Refusal>
     ensures { result ≡ shown_of (show_on (contents head.now groups.now pairs.now) asker (asked_group asker asked)) }
 {
+    let lent = Lent {
+        head,
+        groups,
+        pairs,
+    };
     let group = asked_group(asker, asked);
-    let fault = ask_fault(head, groups, pairs, asker, group);
-    let Reply::Done = fault else {
-        return shown_none(fault);
+    ask_fault(lent, asker, group)?;
+    let Ok(at) = place(lent.group_rows(), GroupKey::from(group)) else {
+        unreachable!()
     };
-    let count = head[GROUP_COUNT];
-    let Place::At(i) = group_place(groups, count as usize, group_key(group)) else {
-        return shown_none(fault);
-    };
-    shown_row(groups[i])
+    Ok(shown_row(&groups[at]))
 }

@@ -1,51 +1,43 @@
 -- `asking::show` meets its contract.
-use mathlib.Core.Path.{◌∙◌}
+use mathlib.Core.Path.{◌≡◌}
+use Prim.Native.Nat.{ℕ}
 use native.Mathlib.Omega.{arith}
-use Rattle.store.specs.Storage.{contents}
-use Rattle.asking.proofs.Showing.{show-refused, show-absent, seen}
+use lib.Dec.{eqb, ltb}
+use Rattle.std.specs.Prelude.{Ok}
+use Rattle.store.specs.Storage.{contents, ledger_of}
+use Rattle.store.specs.Places.{place_of}
+use Rattle.asking.proofs.Showing.{Seen, show-absent, seen}
 use Rattle.asking.proofs.show.Goals as goal
+use Rattle.asking.proofs.show.Goals.{After-place}
 
-pub returns-in_default : goal.returns-in_default
-returns-in_default c =
+place : (c : After-place) → let a = c.args in
+    c.place.result ≡ place_of ltb eqb (ledger_of (contents a.head.now a.groups.now a.pairs.now)).groups c.from.result.0
+place c = rw c.group_rows.ensures at c.place.ensures
+
+pub unreachable-requires : goal.unreachable-requires
+unreachable-requires c =
     let a = c.args in
     let x = contents a.head.now a.groups.now a.pairs.now in
-    rw (← c.asked_group-group.ensures)
-    (show-refused x a.asker _ c.ask_fault-fault.ensures _ c.in_default.is c.shown_none.ensures)
+    show-absent x a.asker _ c.ask_fault.ensures c.in_ok-ask_fault.was _ c.from.ensures _ (place (goal.at.unreachable-requires c).After-place) _ c.in_default.is
 
-pub returns-in_default-group_place : goal.returns-in_default-group_place
-returns-in_default-group_place c =
+-- the row at the group's place
+there : (c : After-place) (at : ℕ) → c.place.result ≡ Ok at → let a = c.args in
+    Seen (contents a.head.now a.groups.now a.pairs.now) a.asker c.asked_group-group.result at
+there c at e =
     let a = c.args in
     let x = contents a.head.now a.groups.now a.pairs.now in
-    let j = c.ask_fault-fault.ensures in
-    let absent = show-absent x a.asker _ j c.in-Done.is in
-    let place = c.group_place.ensures in
-    absurd (absent _ c.group_key.ensures _ place _ c.in_default-group_place.is)
+    seen x a.asker _ c.ask_fault.ensures c.in_ok-ask_fault.was _ c.from.ensures _ (place c) at e
 
--- the row at the group's place: here and below
-pub offset_bounds-groups-i : goal.offset_bounds-groups-i
-offset_bounds-groups-i c =
-    let a = c.args in
-    let x = contents a.head.now a.groups.now a.pairs.now in
-    let there = seen x a.asker _ c.ask_fault-fault.ensures c.in-Done.is _ c.group_key.ensures _ c.group_place.ensures _ c.in-At.is in
-    omega (arith, there.inside)
+pub offset_bounds-groups-at : goal.offset_bounds-groups-at
+offset_bounds-groups-at c = let h = there (goal.at.offset_bounds-groups-at c).After-place c.in-Ok.at c.in-Ok.is in omega (arith, h.inside)
 
-pub bounds-groups-i : goal.bounds-groups-i
-bounds-groups-i c =
-    let a = c.args in
-    let x = contents a.head.now a.groups.now a.pairs.now in
-    let there = seen x a.asker _ c.ask_fault-fault.ensures c.in-Done.is _ c.group_key.ensures _ c.group_place.ensures _ c.in-At.is in
-    there.inside
+pub bounds-groups-at : goal.bounds-groups-at
+bounds-groups-at c = (there (goal.at.bounds-groups-at c).After-place c.in-Ok.at c.in-Ok.is).inside
 
 pub shown_row-requires : goal.shown_row-requires
-shown_row-requires c =
-    let a = c.args in
-    let x = contents a.head.now a.groups.now a.pairs.now in
-    let there = seen x a.asker _ c.ask_fault-fault.ensures c.in-Done.is _ c.group_key.ensures _ c.group_place.ensures _ c.in-At.is in
-    (there.few, there.plain)
+shown_row-requires c = let h = there (goal.at.shown_row-requires c).After-place c.in-Ok.at c.in-Ok.is in (h.few, h.plain)
 
 pub returns : goal.returns
 returns c =
-    let a = c.args in
-    let x = contents a.head.now a.groups.now a.pairs.now in
-    let there = seen x a.asker _ c.ask_fault-fault.ensures c.in-Done.is _ c.group_key.ensures _ c.group_place.ensures _ c.in-At.is in
-    rw (← c.asked_group-group.ensures) (c.shown_row.ensures ∙ there.shown)
+    let h = there (goal.at.returns c).After-place c.in-Ok.at c.in-Ok.is in
+    rw (← c.asked_group-group.ensures, c.shown_row.ensures) h.shown
