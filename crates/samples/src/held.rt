@@ -1,8 +1,5 @@
 // A sample is written into a longer buffer, from a byte on, and read there; what was seen is printed.
-ghost use Rattle.std.specs.Prelude.{◌≤◌, ◌<◌, length};
-
-use frame::{Kind, PLACES, Reading, Record, Verdict, Written};
-use refusal::number;
+use frame::{Kind, Record};
 use std::io;
 
 // What the buffer holds before: a byte that no frame here ends with.
@@ -15,126 +12,71 @@ const START: usize = 5;
 // Writes a record and reads it again, and prints what was seen, beside the record that is wanted again.
 pub fn again(
     rt: &impl Print,
-    name: &[u8],
+    name: &str,
     kind: Kind,
     values: Record,
     wanted: Record,
 ) -> io::Result<()> {
     let mut out = [FILLER; BUFFER];
-    rt.write_all(name)?;
     match frame::write(kind, &values.place, &mut out, START) {
-        Written::Bits(n) => {
+        Ok(bits) => {
             let bytes = used(&out[START..]);
-            print!(rt; "{n} bits in {bytes} bytes")?;
-            let taken = alike(wanted, frame::read(kind, &out[START..], n));
-            tell(rt, taken, b", read again alike\n", b", read otherwise\n")
+            let alike = frame::read(kind, &out[START..], bits) == Ok(wanted);
+            let seen = if alike { "again alike" } else { "otherwise" };
+            println!(rt; "{name}: {bits} bits in {bytes} bytes, read {seen}")
         }
-        Written::Refused(refusal) => {
-            let number = number(refusal);
-            println!(rt; "refused with {number}")
-        }
+        Err(refusal) => println!(rt; "{name}: refused with {refusal}"),
     }
 }
 
-// Writes a record, and reads the frame that was laid out by hand, `bits` bits in digits; prints whether each gives the other.
-pub fn by_hand(
+// Three samples of a kind, each a record and its frame laid out by hand, so many bits in digits: a shortest, a middle one and a longest.
+pub fn three(
     rt: &impl Print,
-    name: &[u8],
+    name: &str,
+    kind: Kind,
+    samples: [(Record, usize, &str); 3],
+) -> io::Result<()> {
+    for (length, (values, bits, digits)) in ["shortest", "middle", "longest"]
+        .into_iter()
+        .zip(samples)
+    {
+        print!(rt; "{length} {name}: ")?;
+        by_hand(rt, kind, values, bits, digits)?;
+    }
+    Ok(())
+}
+
+// Writes a record, and reads the frame that was laid out by hand; prints whether each gives the other.
+fn by_hand(
+    rt: &impl Print,
     kind: Kind,
     values: Record,
     bits: usize,
-    digits: &[u8],
-) -> io::Result<()>
-    requires { length digits.now ≤ 426 }
-{
+    digits: &str,
+) -> io::Result<()> {
     let wanted = laid_out(digits);
     let mut out = [FILLER; BUFFER];
-    let count = written(frame::write(kind, &values.place, &mut out, START));
-    let laid = (count == bits) & same_bytes(&out, &wanted);
-    let taken = alike(values, frame::read(kind, &wanted[START..], bits));
-    rt.write_all(name)?;
-    print!(rt; "{bits}")?;
-    tell(
-        rt,
-        laid,
-        b" bits, written as by hand",
-        b" bits, written otherwise",
-    )?;
-    tell(rt, taken, b", read as by hand\n", b", read otherwise\n")
+    let laid = frame::write(kind, &values.place, &mut out, START) == Ok(bits)
+        && wanted == Some(out);
+    let taken = wanted.is_some_and(|bytes| frame::read(kind, &bytes[START..], bits) == Ok(values));
+    println!(rt; "{bits} bits, written {}, read {}", told(laid), told(taken))
 }
 
-// Prints one text or the other.
-fn tell(rt: &impl Print, first: bool, a: &[u8], b: &[u8]) -> io::Result<()> {
-    rt.write_all(if first { a } else { b })
-}
-
-// The bits that were written; none where the record was refused.
-fn written(w: Written) -> usize {
-    match w {
-        Written::Bits(n) => n,
-        Written::Refused(_) => 0,
-    }
+fn told(same: bool) -> &'static str {
+    if same { "as by hand" } else { "otherwise" }
 }
 
 // How many bytes it is to the last one that is not what it was.
 fn used(out: &[u8]) -> usize {
-    let mut n = out.len();
-    while 0 < n {
-        if out[n - 1] != FILLER {
-            return n;
-        }
-        n -= 1;
-    }
-    0
+    out.iter()
+        .rposition(|&b| b != FILLER)
+        .map_or(0, |last| last + 1)
 }
 
-fn alike(values: Record, again: Reading) -> bool {
-    let verdict = again.verdict;
-    let found = again.values;
-    match verdict {
-        Verdict::Frame => same(values, found),
-        Verdict::Refused(_, _) => false,
-    }
-}
-
-fn same(a: Record, b: Record) -> bool {
-    for i in 0..PLACES {
-        if a.place[i] != b.place[i] {
-            return false;
-        }
-    }
-    true
-}
-
-fn same_bytes(a: &[u8; BUFFER], b: &[u8; BUFFER]) -> bool {
-    for i in 0..BUFFER {
-        if a[i] != b[i] {
-            return false;
-        }
-    }
-    true
-}
-
-// The value of an upper-case hexadecimal digit.
-fn value(digit: u8) -> u8
-    ensures { result < 16 }
-{
-    if digit < b'A' {
-        digit % 16
-    } else {
-        (digit % 16 + 9) % 16
-    }
-}
-
-// The buffer with the bytes that pairs of digits stand for, from the start byte on.
-fn laid_out(digits: &[u8]) -> [u8; BUFFER]
-    requires { length digits.now ≤ 426 }
-{
+// The buffer with the bytes that pairs of digits stand for, from the start byte on; none where they are no whole bytes, or too many.
+fn laid_out(digits: &str) -> Option<[u8; BUFFER]> {
     let mut out = [FILLER; BUFFER];
-    let mut i = 0;
-    while i < digits.len() / 2 {
-        out[START + i] = value(digits[2 * i]) * 16 + value(digits[2 * i + 1]);
-        i += 1;
-    }
-    out
+    let bytes = out.get_mut(START..START + digits.len() / 2)?;
+    hex::decode_to_slice(digits, bytes).ok()?;
+    Some(out)
 }

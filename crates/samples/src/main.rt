@@ -11,23 +11,23 @@ use frame::place::define::*;
 use frame::place::*;
 use frame::{Kind, PLACES, Record};
 use held::again;
-use records::{name, option, put, ten};
+use records::Fill;
 use std::io;
 
 fn main(rt: HostRuntime) -> io::Result<()> {
     let define = Kind::Define;
-    again(&rt, b"shortest DEFINE: ", define, shortest(), shortest())?;
-    again(&rt, b"longest DEFINE: ", define, longest(), longest())?;
+    again(&rt, "shortest DEFINE", define, shortest(), shortest())?;
+    again(&rt, "longest DEFINE", define, longest(), longest())?;
     again(
         &rt,
-        b"shortest DEFINE, unused places full: ",
+        "shortest DEFINE, unused places full",
         define,
         crowded(),
         shortest(),
     )?;
     again(
         &rt,
-        b"acknowledgement with another value than requested: ",
+        "acknowledgement with another value than requested",
         define,
         unrequested(),
         unrequested(),
@@ -42,40 +42,46 @@ fn main(rt: HostRuntime) -> io::Result<()> {
 
 // The shortest, with an acknowledgement that is there and is not requested: a value without a code.
 fn unrequested() -> Record {
-    option(put(shortest(), O_BIT, 1), ACKNOWLEDGEMENT, NO)
+    shortest().put(O_BIT, 1).option(ACKNOWLEDGEMENT, NO)
 }
 
 // A call, no group, nothing that is optional.
 fn shortest() -> Record {
-    put(
-        put(put(frame::blank(), CALL_RELATED, YES), CALL_IDENTIFIER, 5),
-        GIVEN,
-        NO,
-    )
+    frame::blank()
+        .put(CALL_RELATED, YES)
+        .put(CALL_IDENTIFIER, 5)
+        .put(GIVEN, NO)
 }
 
 // The shortest, with a number too large for any element in each place that it does not use.
 fn crowded() -> Record {
-    let mut values = Record {
+    let full = Record {
         place: [u32::MAX; PLACES],
     };
-    values.place[CALL_RELATED] = YES;
-    values.place[CALL_IDENTIFIER] = 5;
-    values.place[GIVEN] = NO;
-    values.place[O_BIT] = 0;
-    values
+    full.put(CALL_RELATED, YES)
+        .put(CALL_IDENTIFIER, 5)
+        .put(GIVEN, NO)
+        .put(O_BIT, 0)
 }
 
 // All that a DEFINE can carry, each list with ten identities that have an extension, and sixteen letters.
 fn longest() -> Record {
-    let values = put(put(frame::blank(), CALL_RELATED, YES), CALL_IDENTIFIER, 5);
-    let values = put(ten(put(values, GIVEN, YES), GROUPS), O_BIT, 1);
-    let values = option(values, SET_REFERENCE, 7);
-    let values = ten(option(values, OWNERS_INCLUDED, YES), OWNERS);
-    let values = option(values, ACKNOWLEDGED_CALL, YES);
-    let values = name(option(values, BROADCAST, NO), NAME);
-    let values = ten(option(values, ASSIGNMENT, YES), RADIOS);
-    let values = option(values, ACKNOWLEDGEMENT, YES);
-    let values = option(values, CLASS, 6);
-    option(option(values, LIFETIME, 3), TEMPORARY, 5)
+    frame::blank()
+        .put(CALL_RELATED, YES)
+        .put(CALL_IDENTIFIER, 5)
+        .put(GIVEN, YES)
+        .ten(GROUPS)
+        .put(O_BIT, 1)
+        .option(SET_REFERENCE, 7)
+        .option(OWNERS_INCLUDED, YES)
+        .ten(OWNERS)
+        .option(ACKNOWLEDGED_CALL, YES)
+        .option(BROADCAST, NO)
+        .name(NAME)
+        .option(ASSIGNMENT, YES)
+        .ten(RADIOS)
+        .option(ACKNOWLEDGEMENT, YES)
+        .option(CLASS, 6)
+        .option(LIFETIME, 3)
+        .option(TEMPORARY, 5)
 }
