@@ -11,16 +11,15 @@ use native.Mathlib.Omega.{arith}
 use borrow.Author.Tests.{le-leb, lt-leb, eq-eqb, ne_eqb, eqb-true}
 use Rattle.bits.specs.Bits.{bytes_for}
 use Rattle.layout.specs.declared.Kind.{Kind}
-use Rattle.layout.specs.Kinds.{kinds}
-use Rattle.house.specs.declared.Line.{Line}
-use Rattle.house.specs.declared.Line.TheVariants.{Frame, Bad}
+use Rattle.layout.specs.declared.UnknownKind.{UnknownKind}
+use Rattle.layout.specs.Kinds.{kind_named}
+use Rattle.std.specs.Prelude.{Option, Some, None, Result, Ok, Err}
 use Rattle.house.specs.Hex.{all_digits, bytes_from}
-use Rattle.house.specs.Kinds.{kind_number}
-use Rattle.house.specs.Heading.{bit_count, named, headed, heading_of, part_of, split_of}
+use Rattle.house.specs.Heading.{bit_count, with_bits, headed, heading_of, part_of, split_of}
 use Rattle.house.specs.Unpacked.{Holds, Filled, Unpacked}
 use Rattle.house.proofs.Hex.{length-bytes}
 
-both-bad : (t : Bool) → ◌≡◌ {A = Line} (cond t Bad Bad) Bad
+both-bad : (t : Bool) → ◌≡◌ {A = Option (Kind × ℕ)} (cond t None None) None
 both-bad true = refl
 both-bad false = refl
 
@@ -30,35 +29,21 @@ tail-false false = refl
 
 module _ (line : List ℕ) where
   -- a length that no bit count gives
-  pub odd-length : ((n : ℕ) → length line ≡ 6 + 2 * n → ⊥) → heading_of line ≡ Bad
+  pub odd-length : ((n : ℕ) → length line ≡ 6 + 2 * n → ⊥) → heading_of line ≡ None
   unfolding heading_of
   odd-length none = simp (ne_eqb _ _ (none (bytes_for (bit_count (bytes_from line))))) (both-bad (all_digits line && leb (length line) 432))
 
-  pub too_long : 432 < length line → heading_of line ≡ Bad
+  pub too_long : 432 < length line → heading_of line ≡ None
   unfolding heading_of
   too_long h = simp (lt-leb _ _ h, tail-false)
 
-  pub no-digits : all_digits line ≡ false → heading_of line ≡ Bad
+  pub no-digits : all_digits line ≡ false → heading_of line ≡ None
   unfolding heading_of
   no-digits h = simp h
 
   all-good : all_digits line ≡ true → length line ≤ 432 → heading_of line ≡ headed (bytes_from line) (length line)
   unfolding heading_of
   all-good h l = simp (h, le-leb _ _ l)
-
--- a number that is none of these kinds', as a match over their numbers tells it, which begins with what is told before
-abbrev NoKind : Type 0 → List Kind → ℕ → Type 0
-NoKind before [] number = before
-NoKind before (kind ∷ known) number = NoKind (before × (number ≡ kind_number kind → ⊥)) known number
-
-unnamed : (before : Type 0) (known : List Kind) (number bits : ℕ) → NoKind before known number → (Bad ≡ named known number bits) × before
-unnamed before [] number bits none = (refl, none)
-unnamed before (kind ∷ known) number bits none =
-    let rest = unnamed (before × (number ≡ kind_number kind → ⊥)) known number bits none in
-    (simp (ne_eqb _ _ rest.1.1) rest.0, rest.1.0)
-
-pub no_kind : (number bits : ℕ) → NoKind Unit kinds number → Bad ≡ named kinds number bits
-no_kind number bits none = (unnamed Unit kinds number bits none).0
 
 -- a buffer whose front holds `vs`
 front_at : (l vs : List ℕ) (k : ℕ) → k < length vs → length vs ≤ length l → get_or (sets l 0 vs) k 0 ≡ get_or vs k 0
@@ -67,10 +52,10 @@ front_at l vs k h fits =
     ap (λ bytes. get_or bytes k 0) (sets-eq vs l 0 inside) ∙ get_or-append vs (drop (0 + length vs) l) 0 k h
 
 module _ (bytes : List ℕ) (digits bits : ℕ) (count : bits ≡ bit_count bytes) where
-  pub length-fits : digits ≡ 6 + 2 * bytes_for bits → named kinds (get_or bytes 0 0) bits ≡ headed bytes digits
+  pub length-fits : digits ≡ 6 + 2 * bytes_for bits → with_bits (kind_named (get_or bytes 0 0)) bits ≡ headed bytes digits
   length-fits h = rw count (simp (eq-eqb _ _ (rw count at h)))
 
-  pub length-differs : (digits ≡ 6 + 2 * bytes_for bits → ⊥) → Bad ≡ headed bytes digits
+  pub length-differs : (digits ≡ 6 + 2 * bytes_for bits → ⊥) → None ≡ headed bytes digits
   length-differs h = simp (ne_eqb _ _ (rw count at h))
 
 -- the heading goes by the first three bytes
@@ -79,32 +64,29 @@ headed-same : (bytes others : List ℕ) (digits : ℕ)
 headed-same bytes others digits p q r = rw (p, q, r)
 
 -- a heading's bits are those of the line's length
-named-holds : (digits number bits : ℕ) (known : List Kind) → digits ≡ 6 + 2 * bytes_for bits → Holds digits (named known number bits)
-named-holds digits number bits [] e = tt
-named-holds digits number bits (kind ∷ known) e = pick (eqb number (kind_number kind)) (named-holds digits number bits known e)
-  where
-    pick : (t : Bool) → Holds digits (named known number bits) → Holds digits (cond t (Frame kind bits) (named known number bits))
-    pick true others = e
-    pick false others = others
+named-holds : (digits bits : ℕ) (named : Result Kind UnknownKind) → digits ≡ 6 + 2 * bytes_for bits → Holds digits (with_bits named bits)
+named-holds digits bits (Ok kind) e = e
+named-holds digits bits (Err unknown) e = tt
 
 headed-holds : (bytes : List ℕ) (digits : ℕ) → Holds digits (headed bytes digits)
 headed-holds bytes digits = pick (eqb digits (6 + 2 * bytes_for (bit_count bytes))) refl
   where
-    pick : (t : Bool) → eqb digits (6 + 2 * bytes_for (bit_count bytes)) ≡ t → Holds digits (cond t (named kinds (get_or bytes 0 0) (bit_count bytes)) Bad)
-    pick true e = named-holds digits (get_or bytes 0 0) (bit_count bytes) kinds (eqb-true _ _ e)
+    pick : (t : Bool) → eqb digits (6 + 2 * bytes_for (bit_count bytes)) ≡ t
+        → Holds digits (cond t (with_bits (kind_named (get_or bytes 0 0)) (bit_count bytes)) None)
+    pick true e = named-holds digits (bit_count bytes) (kind_named (get_or bytes 0 0)) (eqb-true _ _ e)
     pick false e = tt
 
 heading-holds : (line : List ℕ) → Holds (length line) (heading_of line)
 unfolding heading_of
 heading-holds line = pick (all_digits line && leb (length line) 432)
   where
-    pick : (t : Bool) → Holds (length line) (cond t (headed (bytes_from line) (length line)) Bad)
+    pick : (t : Bool) → Holds (length line) (cond t (headed (bytes_from line) (length line)) None)
     pick true = headed-holds (bytes_from line) (length line)
     pick false = tt
 
-filled : (line before after : List ℕ) (heading : Line) → after ≡ sets before 0 (bytes_from line) → length line ≤ 432 → Filled line before after heading
-filled line before after (Frame kind bits) e l = (e, l)
-filled line before after Bad e l = tt
+filled : (line before after : List ℕ) (heading : Option (Kind × ℕ)) → after ≡ sets before 0 (bytes_from line) → length line ≤ 432 → Filled line before after heading
+filled line before after (Some heading) e l = (e, l)
+filled line before after None e l = tt
 
 -- a good line whose bytes are in the buffer has the heading that the buffer's front names
 module _ (line before after : List ℕ) (n : ℕ) (good : all_digits line ≡ true)
@@ -117,7 +99,7 @@ module _ (line before after : List ℕ) (n : ℕ) (good : all_digits line ≡ tr
       let fits : length (bytes_from line) ≤ length before = omega arith in
       ap (λ bytes. get_or bytes k 0) stored ∙ front_at before (bytes_from line) k inside fits
 
-  pub unpacked : (heading : Line) → heading ≡ headed after (length line) → Unpacked line before after heading
+  pub unpacked : (heading : Option (Kind × ℕ)) → heading ≡ headed after (length line) → Unpacked line before after heading
   unpacked heading e =
       record {
         named = e ∙ headed-same after (bytes_from line) (length line) (same 0 (lit< tt)) (same 1 (lit< tt)) (same 2 (lit< tt))
@@ -126,23 +108,23 @@ module _ (line before after : List ℕ) (n : ℕ) (good : all_digits line ≡ tr
         filled = filled line before after heading stored most;
       }
 
-module _ (line : List ℕ) (kind : Kind) (bits : ℕ) (known : heading_of line ≡ Frame kind bits) where
+module _ (line : List ℕ) (heading : Kind × ℕ) (known : heading_of line ≡ Some heading) where
   -- a line with a heading is long enough for it
   pub long-enough : 6 ≤ length line
   long-enough =
-      let holds : length line ≡ 6 + 2 * bytes_for bits = subst (Holds (length line)) known (heading-holds line) in
+      let holds : length line ≡ 6 + 2 * bytes_for heading.1 = subst (Holds (length line)) known (heading-holds line) in
       omega arith
 
   -- and short enough: its frame has no more than 1704 bits
-  pub few_bits : bits ≤ 1704
+  pub few_bits : heading.1 ≤ 1704
   few_bits = go (dec_lt 432 (length line))
     where
-      holds : length line ≡ 6 + 2 * bytes_for bits
+      holds : length line ≡ 6 + 2 * bytes_for heading.1
       holds = subst (Holds (length line)) known (heading-holds line)
 
-      go : Dec (432 < length line) → bits ≤ 1704
+      go : Dec (432 < length line) → heading.1 ≤ 1704
       go (yes long) =
-          let bad : Bad ≡ Frame kind bits = sym (too_long line long) ∙ known in
+          let bad : ◌≡◌ {A = Option (Kind × ℕ)} None (Some heading) = sym (too_long line long) ∙ known in
           let z : ◌≡◌ {A = ℕ} 0 1 = cc in absurd (omega arith)
       go (no short) = omega (arith, holds)
 
@@ -150,7 +132,11 @@ module _ (line : List ℕ) (kind : Kind) (bits : ℕ) (known : heading_of line �
   unfolding split_of
   split-frame = rw known (take_all (length line - 6) (drop 6 line) (simp length-drop (omega arith)))
 
-pub split-bad : (line : List ℕ) → heading_of line ≡ Bad → [] ≡ split_of line
+-- a line with no heading: nothing more is told of it
+pub not-named : {line before after : List ℕ} → heading_of line ≡ None → Unpacked line before after None
+not-named e = record { named = sym e; holds = tt; filled = tt }
+
+pub split-bad : (line : List ℕ) → heading_of line ≡ None → [] ≡ split_of line
 unfolding split_of
 split-bad line known = rw known
 
@@ -164,7 +150,7 @@ bytes_after (a ∷ []) = refl
 bytes_after [] = refl
 
 -- the frame's bytes stand in the buffer behind the heading's three
-module _ (line before after : List ℕ) (kind : Kind) (bits : ℕ) (room : length before ≡ 216) (unpacking : Unpacked line before after (Frame kind bits)) where
+module _ (line before after : List ℕ) (heading : Kind × ℕ) (room : length before ≡ 216) (unpacking : Unpacked line before after (Some heading)) where
   pub still-long : length after ≡ 216
   still-long = ap length unpacking.filled.0 ∙ simp length-sets room
 
@@ -184,4 +170,4 @@ module _ (line before after : List ℕ) (kind : Kind) (bits : ℕ) (room : lengt
       ∙ ap (take (length line / 2 - 3)) (drop-append-le 3 (bytes_from line) rest three)
       ∙ take_at (drop 3 (bytes_from line)) rest (length line / 2 - 3) long
       ∙ sym (bytes_after line)
-      ∙ ap (λ heading. bytes_from (part_of heading line)) known
+      ∙ ap (λ named. bytes_from (part_of named line)) known

@@ -11,22 +11,21 @@ use lib.ListN.{length, get_or, drop, set}
 use lib.Seq.{drop-cons, sets}
 use lib.Bits.{bit_or, or_lt, or_add_and, and_le_l, and_le_r, or_shifted}
 use borrow.Author.Tests.{lt-ltb, le-ltb, ltb-true, ltb-false}
-use Rattle.house.specs.Hex.{digit_value, digit_of, all_digits, bytes_from}
-use Rattle.house.specs.Tables.{tabled, value_table, digit_table}
+use Rattle.house.specs.Hex.{digit_value, all_digits, bytes_from}
 
--- a table of `f` holds `f` of each place
+-- the values of `f` from `from` on, `n` of them
+abbrev pub tabled : (ℕ → ℕ) → ℕ → ℕ → List ℕ
+tabled f from zero = []
+tabled f from (suc n) = f from ∷ tabled f (suc from) n
+
 tabled-at : (f : ℕ → ℕ) (n from k : ℕ) → k < n → get_or (tabled f from n) k 0 ≡ f (from + k)
 tabled-at f zero from k h = absurd (not-suc-le-zero h)
 tabled-at f (suc n) from zero h = ap f (sym (add-zero from))
 tabled-at f (suc n) from (suc k) h = tabled-at f n (suc from) k (le_of_suc-le-suc h) ∙ ap f (suc-add from k ∙ sym (add-suc from k))
 
-pub value-at : (values : List ℕ) (k : ℕ) → values ≡ value_table → k < 256 → get_or values k 0 ≡ digit_value k
-unfolding value_table
-value-at values k e h = ap (λ table. get_or table k 0) e ∙ tabled-at digit_value 256 0 k h ∙ ap digit_value (zero-add k)
-
-pub digit_at : (digits : List ℕ) (k : ℕ) → digits ≡ digit_table → k < 16 → get_or digits k 0 ≡ digit_of k
-unfolding digit_table
-digit_at digits k e h = ap (λ table. get_or table k 0) e ∙ tabled-at digit_of 16 0 k h ∙ ap digit_of (zero-add k)
+-- a table of `f` holds `f` of each place
+pub table_at : (f : ℕ → ℕ) (n : ℕ) {table : List ℕ} {place k : ℕ} → table ≡ tabled f 0 n → place ≡ k → k < n → get_or table place 0 ≡ f k
+table_at f n {k = k} e p h = rw (e, p) (tabled-at f n 0 k h ∙ ap f (zero-add k))
 
 -- two more characters of a text, from an even place on
 two-more : (text : List ℕ) (i : ℕ) → 2 * i + 1 < length text → drop (2 * i) text ≡ get_or text (2 * i) 0 ∷ get_or text (2 * i + 1) 0 ∷ drop (2 * (i + 1)) text

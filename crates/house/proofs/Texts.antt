@@ -1,4 +1,4 @@
--- Laws of the text that goes out: digits put one after the other, a number in decimal, and its length.
+-- Laws of the text that goes out: digits put one after the other, and its length.
 use mathlib.Core.Path.{◌≡◌, refl, sym, ap, ◌∙◌, subst}
 use mathlib.Core.Bool.{Bool, true, false, cond}
 use mathlib.Core.List.{List, [], ◌∷◌, ◌++◌}
@@ -8,15 +8,16 @@ use native.Mathlib.Numerals.{add-one}
 use native.Mathlib.Omega.{arith}
 use lib.Dec.{ltb}
 use lib.ListN.{length, get_or, set, take, drop, length-take}
-use lib.Seq.{sets, drop-cons, get_or-take, take-nil}
-use borrow.Author.Tests.{lt-ltb, le-ltb}
+use lib.Seq.{sets, drop-cons, take-nil}
+use borrow.Author.Tests.{le-leb}
 use Rattle.bits.specs.Bits.{bytes_for}
 use Rattle.refusal.specs.Number.{number_of}
 use Rattle.refusal.specs.declared.Refusal.{Refusal}
 use Rattle.layout.specs.declared.Kind.{Kind}
-use Rattle.house.specs.Kinds.{kind_number}
+use Rattle.refusal.specs.Reply.{refused, PutsRefusal}
+use Rattle.layout.specs.Kinds.{kind_number}
 use Rattle.house.specs.Hex.{digits_of}
-use Rattle.house.specs.Echo.{decimal, refused, taken}
+use Rattle.house.specs.Echo.{two_bytes, taken}
 use Rattle.house.specs.Sent.{Sent}
 
 pub length_digits : (bytes : List ℕ) → length (digits_of bytes) ≡ 2 * length bytes
@@ -24,24 +25,22 @@ length_digits [] = refl
 length_digits (byte ∷ bytes) = let rest = length_digits bytes in omega arith
 
 -- one byte's digits put: what is left to put, from the next place on, makes the same text
-pub put-more : (out out' bytes : List ℕ) (count i at : ℕ) → i < count → count ≤ length bytes → out' ≡ sets out (at + 2 * i) (digits_of (get_or bytes i 0 ∷ []))
-    → sets out' (at + 2 * (i + 1)) (digits_of (drop (i + 1) (take count bytes))) ≡ sets out (at + 2 * i) (digits_of (drop i (take count bytes)))
-put-more out out' bytes count i at low fits put =
+pub put-more : (out out' bytes : List ℕ) (i at : ℕ) → i < length bytes → out' ≡ sets out (at + 2 * i) (digits_of (get_or bytes i 0 ∷ []))
+    → sets out' (at + 2 * (i + 1)) (digits_of (drop (i + 1) bytes)) ≡ sets out (at + 2 * i) (digits_of (drop i bytes))
+put-more out out' bytes i at inside put =
     let place : at + 2 * (i + 1) ≡ suc (suc (at + 2 * i)) = omega arith in
-    let inside : i < length (take count bytes) = simp length-take (omega arith) in
-    let byte : drop i (take count bytes) ≡ get_or bytes i 0 ∷ drop (i + 1) (take count bytes) =
-    rw (drop-cons (take count bytes) i 0, get_or-take, add-one) in
+    let byte : drop i bytes ≡ get_or bytes i 0 ∷ drop (i + 1) bytes = rw (drop-cons bytes i 0, add-one) in
     rw (put, place, byte)
-
--- a number below 100 in one digit or in two
-pub one-digit : (n m : ℕ) → n ≡ m → n < 10 → decimal m ≡ (48 + n) ∷ []
-one-digit n m e h = rw (← e) (simp (lt-ltb _ _ h))
-
-pub two_digits : (n m : ℕ) → n ≡ m → 10 ≤ n → decimal m ≡ (48 + n / 10) ∷ (48 + n % 10) ∷ []
-two_digits n m e h = rw (← e) (simp (le-ltb _ _ h))
 
 pub sent : {text same before after : List ℕ} {count : ℕ} → text ≡ same → Sent same before after count → Sent text before after count
 sent {text} {same} {before} {after} {count} e s = subst (λ t. Sent t before after count) (sym e) s
+
+-- a refusal that was put, where there was room
+pub told : {refusal : Refusal} {before after : List ℕ} {count : ℕ} → 433 ≤ length before → PutsRefusal refusal before after count
+    → Sent (refused refusal) before after count
+told {refusal} {before} room p =
+    let space : 3 ≤ length before = omega arith in
+    record { counted = rw (le-leb _ _ space) at p.counted; stored = rw (le-leb _ _ space) at p.stored; short = omega (arith, p.short) }
 
 -- R and the number, of one digit or two, and behind it a blank and the four digits of two bytes
 module _ (refusal : Refusal) (end : ℕ) (out out₁ : List ℕ) (put : Sent (refused refusal) out out₁ end) where
@@ -71,9 +70,9 @@ take-least (byte ∷ bytes) (suc n) =
     ap (λ n. take n (byte ∷ bytes)) (suc-min-suc n (length bytes)) ∙ ap (λ (rest : List ℕ). byte ∷ rest) (take-least bytes n)
 
 -- the reply of a frame, put in three steps: A, the heading, the frame's bytes
-module _ (out out₁ out₂ bytes : List ℕ) (kind : Kind) (k bits most count : ℕ)
-    (named : k ≡ kind_number kind) (all : most ≡ bytes_for bits) (least : count ≡ min most 213) (room : length bytes ≡ 213)
-    (first : out₁ ≡ sets (set out 0 65) 1 (digits_of (k ∷ (bits / 256 % 256) ∷ (bits % 256) ∷ [])))
+module _ (out out₁ out₂ bytes : List ℕ) (kind : Kind) (k bits most count : ℕ) (two : List ℕ)
+    (named : k ≡ kind_number kind) (halves : two ≡ two_bytes bits) (all : most ≡ bytes_for bits) (least : count ≡ min most 213) (room : length bytes ≡ 213)
+    (first : out₁ ≡ sets (set out 0 65) 1 (digits_of (k ∷ get_or two 0 0 ∷ get_or two 1 0 ∷ [])))
     (then : out₂ ≡ sets out₁ 7 (digits_of (take count bytes))) where
   held : count ≡ min (bytes_for bits) (length bytes)
   held = rw (least, all, room)
@@ -86,6 +85,6 @@ module _ (out out₁ out₂ bytes : List ℕ) (kind : Kind) (k bits most count :
       let long : length (take (bytes_for bits) bytes) ≡ count = length-take (bytes_for bits) bytes ∙ sym held in
       record {
         counted = omega (arith, length_digits (take (bytes_for bits) bytes));
-        stored = rw (then, first, frame, named);
+        stored = rw (then, first, frame, named, halves);
         short = omega (arith, min-le_right most 213);
       }

@@ -1,7 +1,5 @@
 -- The definitions that the contracts of `house` cite.
 pub mod Hex
-pub mod Tables
-pub mod Kinds
 pub mod Heading
 pub mod Says
 pub mod Unpacked

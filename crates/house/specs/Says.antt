@@ -1,19 +1,16 @@
 -- What a line's heading says in document 01's terms: 0, the kind's number and the bit count; or 9.
-use Rattle.std.specs.Prelude.{ℕ, ◌+◌, ◌*◌, Bool, false, ◌&&◌, ◌||◌, List, [], ◌∷◌, leb, eqb, length, get_or}
+use Rattle.std.specs.Prelude.{ℕ, ◌+◌, ◌*◌, Bool, false, ◌&&◌, ◌||◌, List, [], ◌∷◌, leb, eqb, length, get_or, Option, Some, None}
 use Rattle.bits.specs.Bits.{bytes_for}
 use Rattle.refusal.specs.Says.{Says, accepted, refused_with}
 use Rattle.refusal.specs.declared.Refusal.TheVariants.{BadLine}
 use Rattle.layout.specs.declared.Kind.{Kind}
-use Rattle.layout.specs.Kinds.{kinds}
-use Rattle.house.specs.declared.Line.{Line}
-use Rattle.house.specs.declared.Line.TheVariants.{Frame, Bad}
+use Rattle.layout.specs.Kinds.{kinds, kind_number}
 use Rattle.house.specs.Hex.{all_digits, bytes_from}
-use Rattle.house.specs.Kinds.{kind_number}
 use Rattle.house.specs.Heading.{bit_count}
 
-abbrev pub line_says : Line → Says
-line_says (Frame kind bits) = accepted (kind_number kind ∷ bits ∷ [])
-line_says Bad = refused_with BadLine
+abbrev pub line_says : Option (Kind × ℕ) → Says
+line_says (Some heading) = accepted (kind_number heading.0 ∷ heading.1 ∷ [])
+line_says None = refused_with BadLine
 
 -- a number is one of these kinds'
 abbrev pub known : List Kind → ℕ → Bool

@@ -1,21 +1,18 @@
 #![tactic(auto)]
 
 // House text: one frame a line, in upper-case hexadecimal digits.
-ghost use Rattle.std.specs.Prelude.{◌≡◌, true, [], ◌∷◌, ◌+◌, ◌*◌, ◌≤◌, ◌<◌, min, length, take};
+ghost use Rattle.std.specs.Prelude.{◌≡◌, [], ◌∷◌, ◌+◌, ◌*◌, ◌%◌, ◌/◌, ◌≤◌, ◌<◌, length, take, is_some, OnSome};
 ghost use Rattle.std.proofs.lemmas.List.Edits.{sets};
-ghost use Rattle.house.specs.Hex.{digit_value, all_digits, bytes_from, digits_of};
-ghost use Rattle.house.specs.Tables.{value_table, digit_table};
-ghost use Rattle.layout.specs.Kinds.{kinds};
-ghost use Rattle.house.specs.Kinds.{kind_number};
-ghost use Rattle.house.specs.Heading.{named, headed, heading_of, split_of};
+ghost use Rattle.house.specs.Hex.{digit_value, digit_of, all_digits, bytes_from, digits_of};
+ghost use Rattle.house.specs.Heading.{headed, heading_of, split_of};
 ghost use Rattle.house.specs.Unpacked.{Unpacked};
 ghost use Rattle.bits.specs.Bits.{bytes_for};
 ghost use Rattle.layout.specs.Frame.{reading_of};
-ghost use Rattle.house.specs.Echo.{refused, within, refused_at, taken, anew, answer_to, echo_within};
+ghost use Rattle.house.specs.Echo.{two_bytes, within, refused_at, taken, anew, answer_to, echo_within};
 ghost use Rattle.house.specs.Sent.{Sent};
 
-use frame::{Kind, PLACES, Verdict, Written, read, write};
-use refusal::{Refusal, number};
+use frame::{Kind, PLACES, read, write};
+use refusal::Refusal;
 
 // The most digits of a line, and the bytes that they stand for: kind, bit count and frame.
 const LINE_DIGITS: usize = 432;
@@ -26,152 +23,106 @@ const FRAME_BYTES: usize = 213;
 // The longest reply: A and a line.
 const REPLY: usize = 433;
 
-// What a line is: a frame of a kind, with its bit count, or nothing that is known.
-#[derive(Clone, Copy)]
-pub enum Line {
-    Frame(Kind, usize),
-    Bad,
-}
-
-// The number of a kind, in a line's first two digits.
-fn kind_number(kind: Kind) -> u8
-    ensures { result ≡ kind_number kind }
-{
-    match kind {
-        Kind::Define => 0x01,
-        Kind::DefineAck => 0x02,
-        Kind::Cancel => 0x03,
-        Kind::CancelAck => 0x04,
-        Kind::Assign => 0x05,
-        Kind::AssigningAck => 0x06,
-        Kind::Deassign => 0x07,
-        Kind::DeassigningAck => 0x08,
-        Kind::Delete => 0x0C,
-        Kind::DeleteAck => 0x0D,
-    }
-}
-
-// The heading that a kind's number and a bit count make.
-fn named_kind(number: u8, bits: usize) -> Line
-    ensures { result ≡ named kinds number bits }
-{
-    match number {
-        0x01 => Line::Frame(Kind::Define, bits),
-        0x02 => Line::Frame(Kind::DefineAck, bits),
-        0x03 => Line::Frame(Kind::Cancel, bits),
-        0x04 => Line::Frame(Kind::CancelAck, bits),
-        0x05 => Line::Frame(Kind::Assign, bits),
-        0x06 => Line::Frame(Kind::AssigningAck, bits),
-        0x07 => Line::Frame(Kind::Deassign, bits),
-        0x08 => Line::Frame(Kind::DeassigningAck, bits),
-        0x0C => Line::Frame(Kind::Delete, bits),
-        0x0D => Line::Frame(Kind::DeleteAck, bits),
-        _ => Line::Bad,
-    }
-}
-
 // The value of every character, so that a digit costs one look; 16 where it is no digit.
-fn digit_values() -> [u8; 256]
-    ensures { result ≡ value_table }
-{
-    let mut values = [16u8; 256];
-    values[48] = 0;
-    values[49] = 1;
-    values[50] = 2;
-    values[51] = 3;
-    values[52] = 4;
-    values[53] = 5;
-    values[54] = 6;
-    values[55] = 7;
-    values[56] = 8;
-    values[57] = 9;
-    values[65] = 10;
-    values[66] = 11;
-    values[67] = 12;
-    values[68] = 13;
-    values[69] = 14;
-    values[70] = 15;
-    values
-}
+static VALUES: [u8; 256] = [
+    16, 16, 16, 16, 16, 16, 16, 16, 16, 16, 16, 16, 16, 16, 16, 16, 16, 16, 16, 16, 16, 16, 16, 16,
+    16, 16, 16, 16, 16, 16, 16, 16, 16, 16, 16, 16, 16, 16, 16, 16, 16, 16, 16, 16, 16, 16, 16, 16,
+    0, 1, 2, 3, 4, 5, 6, 7, 8, 9, 16, 16, 16, 16, 16, 16, 16, 10, 11, 12, 13, 14, 15, 16, 16, 16,
+    16, 16, 16, 16, 16, 16, 16, 16, 16, 16, 16, 16, 16, 16, 16, 16, 16, 16, 16, 16, 16, 16, 16, 16,
+    16, 16, 16, 16, 16, 16, 16, 16, 16, 16, 16, 16, 16, 16, 16, 16, 16, 16, 16, 16, 16, 16, 16, 16,
+    16, 16, 16, 16, 16, 16, 16, 16, 16, 16, 16, 16, 16, 16, 16, 16, 16, 16, 16, 16, 16, 16, 16, 16,
+    16, 16, 16, 16, 16, 16, 16, 16, 16, 16, 16, 16, 16, 16, 16, 16, 16, 16, 16, 16, 16, 16, 16, 16,
+    16, 16, 16, 16, 16, 16, 16, 16, 16, 16, 16, 16, 16, 16, 16, 16, 16, 16, 16, 16, 16, 16, 16, 16,
+    16, 16, 16, 16, 16, 16, 16, 16, 16, 16, 16, 16, 16, 16, 16, 16, 16, 16, 16, 16, 16, 16, 16, 16,
+    16, 16, 16, 16, 16, 16, 16, 16, 16, 16, 16, 16, 16, 16, 16, 16, 16, 16, 16, 16, 16, 16, 16, 16,
+    16, 16, 16, 16, 16, 16, 16, 16, 16, 16, 16, 16, 16, 16,
+];
+
+// The digit of every value below 16.
+static DIGITS: [u8; 16] = *b"0123456789ABCDEF";
 
 // The value of one character.
-fn value_of(values: &[u8; 256], character: u8) -> u8
-    requires { values.now ≡ value_table }
+fn value_of(character: u8) -> u8
     ensures { result ≡ digit_value character }
 {
-    values[character as usize]
+    VALUES[usize::from(character)]
 }
 
-// Takes `count` bytes out of their digits, or says that a character is no digit.
-fn take_bytes(values: &[u8; 256], text: &[u8], bytes: &mut [u8], count: usize) -> bool
-    requires { (values.now ≡ value_table) × (length text.now ≡ 2 * count) × (count ≤ length bytes.old) }
-    ensures { (result ≡ all_digits text.now) × (result ≡ true → bytes.new ≡ sets bytes.old 0 (bytes_from text.now)) }
+// The digit of a value below 16.
+fn digit_of(value: u8) -> u8
+    requires { value < 16 }
+    ensures { result ≡ digit_of value }
+{
+    DIGITS[usize::from(value)]
+}
+
+// Takes bytes out of their digits; nothing where a character is no digit.
+fn take_bytes(text: &[u8], bytes: &mut [u8]) -> Option<()>
+    requires even { length text.now % 2 ≡ 0 }
+    requires room { length text.now / 2 ≤ length bytes.old }
+    ensures good { is_some result ≡ all_digits text.now }
+    ensures stored { OnSome result (bytes.new ≡ sets bytes.old 0 (bytes_from text.now)) }
 {
     // 16 comes in with a character that is no digit, and stays.
     let mut seen = 0u8;
-    let mut i = 0;
-    while i < count {
-        let high = value_of(values, text[2 * i]);
-        let low = value_of(values, text[2 * i + 1]);
+    for i in 0..text.len() / 2 {
+        let high = value_of(text[2 * i]);
+        let low = value_of(text[2 * i + 1]);
         seen = seen | high | low;
         bytes[i] = high % 16 * 16 | low;
-        i += 1;
     }
-    seen < 16
+    (seen < 16).then_some(())
 }
 
 // The bytes that hold a number of bits.
 fn bytes_for(bits: usize) -> usize
     ensures { result ≡ bytes_for bits }
 {
-    bits / 8 + (bits % 8 + 7) / 8
+    bits.div_ceil(8)
 }
 
-// The bit count that two bytes hold.
+// A number of 16 bits in two bytes.
+fn two_bytes(n: usize) -> [u8; 2]
+    ensures { result ≡ two_bytes n }
+{
+    ((n % 65536) as u16).to_be_bytes()
+}
+
+// The number that two bytes hold.
 fn bit_count(high: u8, low: u8) -> usize
     ensures { (result ≡ high * 256 + low) × (result < 65536) }
 {
-    (high as usize) * 256 + low as usize
+    usize::from(u16::from_be_bytes([high, low]))
 }
 
 // The heading that the first bytes of a line of so many digits name.
-fn heading_of(bytes: &[u8], digits: usize) -> Line
-    requires { 3 ≤ length bytes.now }
+fn heading_of(bytes: &[u8; LINE_BYTES], digits: usize) -> Option<(Kind, usize)>
     ensures { result ≡ headed bytes.now digits }
 {
     let bits = bit_count(bytes[1], bytes[2]);
-    if digits == 6 + 2 * bytes_for(bits) {
-        named_kind(bytes[0], bits)
-    } else {
-        Line::Bad
+    if digits != 6 + 2 * bytes_for(bits) {
+        return None;
     }
+    let Ok(kind) = Kind::try_from(bytes[0]) else {
+        return None;
+    };
+    Some((kind, bits))
 }
 
 // Takes a line's bytes into `bytes`, which has room for the longest, and the heading out of them.
-fn unpack(line: &[u8], bytes: &mut [u8]) -> Line
-    requires { length bytes.old ≡ 216 }
+fn unpack(line: &[u8], bytes: &mut [u8; LINE_BYTES]) -> Option<(Kind, usize)>
     ensures { Unpacked line.now bytes.old bytes.new result }
 {
     let digits = line.len();
-    if digits < 6 {
-        return Line::Bad;
+    if digits < 6 || LINE_DIGITS < digits || digits % 2 == 1 {
+        return None;
     }
-    if LINE_DIGITS < digits {
-        return Line::Bad;
-    }
-    if digits % 2 == 1 {
-        return Line::Bad;
-    }
-    let values = digit_values();
-    if take_bytes(&values, line, bytes, digits / 2) {
-        heading_of(bytes, digits)
-    } else {
-        Line::Bad
-    }
+    take_bytes(line, bytes)?;
+    heading_of(bytes, digits)
 }
 
-// The kind and the bit count of a line.
-pub fn heading(line: &[u8]) -> Line
+// The kind and the bit count of a line; nothing where the line is bad.
+pub fn heading(line: &[u8]) -> Option<(Kind, usize)>
     ensures { result ≡ heading_of line.now }
 {
     let mut bytes = [0u8; LINE_BYTES];
@@ -183,53 +134,27 @@ pub fn split(line: &[u8]) -> &[u8]
     ensures { result.now ≡ split_of line.now }
 {
     match heading(line) {
-        Line::Frame(_, _) => &line[6..],
-        Line::Bad => &line[..0],
+        Some(_) => &line[6..],
+        None => &line[..0],
     }
-}
-
-// The digit of every value below 16.
-fn value_digits() -> [u8; 16]
-    ensures { result ≡ digit_table }
-{
-    *b"0123456789ABCDEF"
 }
 
 // Puts the two digits of a byte at `at`.
-fn put_byte(digits: &[u8; 16], byte: u8, out: &mut [u8], at: usize)
-    requires { (digits.now ≡ digit_table) × (at + 1 < length out.old) }
+fn put_byte(byte: u8, out: &mut [u8], at: usize)
+    requires { at + 1 < length out.old }
     ensures { out.new ≡ sets out.old at (digits_of (byte ∷ [])) }
 {
-    out[at] = digits[(byte / 16) as usize];
-    out[at + 1] = digits[(byte % 16) as usize];
+    out[at] = digit_of(byte / 16);
+    out[at + 1] = digit_of(byte % 16);
 }
 
-// Puts the digits of the first `count` bytes from `at` on.
-fn put_bytes(digits: &[u8; 16], bytes: &[u8], count: usize, out: &mut [u8], at: usize)
-    requires { (digits.now ≡ digit_table) × (count ≤ length bytes.now) × (at + 2 * count ≤ length out.old) }
-    ensures { out.new ≡ sets out.old at (digits_of (take count bytes.now)) }
+// Puts the digits of bytes from `at` on.
+fn put_bytes(bytes: &[u8], out: &mut [u8], at: usize)
+    requires { at + 2 * length bytes.now ≤ length out.old }
+    ensures { out.new ≡ sets out.old at (digits_of bytes.now) }
 {
-    let mut i = 0;
-    while i < count {
-        put_byte(digits, bytes[i], out, at + 2 * i);
-        i += 1;
-    }
-}
-
-// Answers R and the refusal's number.
-fn refuse(refusal: Refusal, out: &mut [u8]) -> usize
-    requires { 433 ≤ length out.old }
-    ensures { Sent (refused refusal) out.old out.new result }
-{
-    let n = number(refusal);
-    out[0] = b'R';
-    if n < 10 {
-        out[1] = 48 + n;
-        2
-    } else {
-        out[1] = 48 + n / 10;
-        out[2] = 48 + n % 10;
-        3
+    for (i, byte) in bytes.iter().enumerate() {
+        put_byte(*byte, out, at + 2 * i);
     }
 }
 
@@ -240,36 +165,22 @@ pub fn refuse_at(refusal: Refusal, bit: usize, out: &mut [u8]) -> usize
     if out.len() < REPLY {
         return 0;
     }
-    let digits = value_digits();
-    let bytes = [(bit / 256 % 256) as u8, (bit % 256) as u8];
-    let end = refuse(refusal, out);
+    let end = refusal.put(out);
     out[end] = b' ';
-    put_bytes(&digits, &bytes, 2, out, end + 1);
+    put_bytes(&two_bytes(bit), out, end + 1);
     end + 5
 }
 
-// The smaller of two numbers.
-fn least(a: usize, b: usize) -> usize
-    ensures { result ≡ min a b }
-{
-    if a < b { a } else { b }
-}
-
 // Answers A and the line of a frame whose bytes are the first of `bytes`.
-fn accept(kind: Kind, bits: usize, bytes: &[u8], out: &mut [u8]) -> usize
-    requires { (length bytes.now ≡ 213) × (433 ≤ length out.old) }
+fn accept(kind: Kind, bits: usize, bytes: &[u8; FRAME_BYTES], out: &mut [u8]) -> usize
+    requires { 433 ≤ length out.old }
     ensures { Sent (taken kind bits (take (bytes_for bits) bytes.now)) out.old out.new result }
 {
-    let digits = value_digits();
-    let count = least(bytes_for(bits), FRAME_BYTES);
-    let heading = [
-        kind_number(kind),
-        (bits / 256 % 256) as u8,
-        (bits % 256) as u8,
-    ];
+    let count = bytes_for(bits).min(FRAME_BYTES);
+    let [high, low] = two_bytes(bits);
     out[0] = b'A';
-    put_bytes(&digits, &heading, 3, out, 1);
-    put_bytes(&digits, bytes, count, out, 7);
+    put_bytes(&[u8::from(kind), high, low], out, 1);
+    put_bytes(&bytes[..count], out, 7);
     7 + 2 * count
 }
 
@@ -280,8 +191,8 @@ fn remake(kind: Kind, values: &[u32; PLACES], out: &mut [u8]) -> usize
 {
     let mut bytes = [0u8; FRAME_BYTES];
     match write(kind, values, &mut bytes, 0) {
-        Written::Bits(bits) => accept(kind, bits, &bytes, out),
-        Written::Refused(refusal) => refuse(refusal, out),
+        Ok(bits) => accept(kind, bits, &bytes, out),
+        Err(refusal) => refusal.put(out),
     }
 }
 
@@ -290,11 +201,9 @@ fn answer(kind: Kind, frame: &[u8], bits: usize, out: &mut [u8]) -> usize
     requires { 433 ≤ length out.old }
     ensures { Sent (answer_to kind (reading_of kind frame.now bits)) out.old out.new result }
 {
-    let reading = read(kind, frame, bits);
-    let verdict = reading.verdict;
-    match verdict {
-        Verdict::Frame => remake(kind, &reading.values.place, out),
-        Verdict::Refused(refusal, bit) => refuse_at(refusal, bit, out),
+    match read(kind, frame, bits) {
+        Ok(record) => remake(kind, &record.place, out),
+        Err(refused) => refuse_at(refused.refusal, refused.bit, out),
     }
 }
 
@@ -306,11 +215,8 @@ pub fn echo_line(line: &[u8], out: &mut [u8]) -> usize
         return 0;
     }
     let mut bytes = [0u8; LINE_BYTES];
-    match unpack(line, &mut bytes) {
-        Line::Frame(kind, bits) => {
-            let end = line.len() / 2;
-            answer(kind, &bytes[3..end], bits, out)
-        }
-        Line::Bad => refuse(Refusal::BadLine, out),
-    }
+    let Some((kind, bits)) = unpack(line, &mut bytes) else {
+        return Refusal::BadLine.put(out);
+    };
+    answer(kind, &bytes[3..line.len() / 2], bits, out)
 }

@@ -8,10 +8,11 @@ returns c =
     let given = c.args in
     let head = c.put_bytes in
     let frame = c.put_bytes-2 in
-    accepted given.out.now head.new.out frame.new.out given.bytes.now given.kind _ given.bits _ _
-    c.kind_number.ensures
+    accepted given.out.now head.new.out frame.new.out given.bytes.now given.kind _ given.bits _ _ c.two_bytes.result
+    c.from.ensures
+    c.two_bytes.ensures
     c.bytes_for.ensures
-    c.least-count.ensures
+    c.min-count.ensures
     (omega arith)
     head.ensures
     frame.ensures

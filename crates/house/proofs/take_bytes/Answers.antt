@@ -5,7 +5,6 @@ use Prim.Native.Nat.{◌+◌, ◌*◌, ◌<◌}
 use native.Mathlib.Omega.{arith}
 use lib.ListN.{length}
 use Rattle.house.proofs.Hex.{seen_more, seen-less, stored_more}
-use borrow.Author.Rules.{rules}
 use Rattle.house.proofs.take_bytes.Goals as goal
 
 pub loop-i-preserved : goal.loop-i-preserved
@@ -14,10 +13,9 @@ loop-i-preserved c =
     let text = c.args.text.now in
     let high = c.value_of-high in
     let low = c.value_of-low in
-    let within : 2 * at.i + 1 < length text = omega arith in (
-      search rules,
-      seen_more text at.bytes at.i at.seen high.result low.result within high.ensures low.ensures ∙ at.invariant.1,
-      (λ small. stored_more text at.bytes at.i at.seen high.result low.result within high.ensures low.ensures small
-          ∙ at.invariant.2 (seen-less at.seen high.result low.result small)),
-      omega arith,
-    )
+    let within : 2 * at.i + 1 < length text = omega arith in
+    record {
+      decides = seen_more text at.bytes at.i at.seen high.result low.result within high.ensures low.ensures ∙ at.invariant.decides;
+      stores = λ small. stored_more text at.bytes at.i at.seen high.result low.result within high.ensures low.ensures small
+          ∙ at.invariant.stores (seen-less at.seen high.result low.result small);
+    }

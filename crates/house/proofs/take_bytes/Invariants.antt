@@ -2,19 +2,15 @@
 -- Each turn is one law of `Hex`.
 use mathlib.Core.Path.{◌≡◌}
 use mathlib.Core.Bool.{◌&&◌}
-use Prim.Native.Nat.{◌-◌, ◌*◌, ◌<◌, ◌≤◌}
+use Prim.Native.Nat.{◌*◌, ◌<◌}
 use lib.Dec.{ltb}
-use lib.ListN.{length, drop}
+use lib.ListN.{drop}
 use lib.Seq.{sets}
 use Rattle.house.specs.Hex.{all_digits, bytes_from}
 use Rattle.house.proofs.take_bytes.Given as goal
 
 abbrev pub invariant-loop-i : goal.invariant-loop-i
-invariant-loop-i l =
-    (length l.bytes ≡ length l.initial.bytes)
-    × ((ltb l.seen 16 && all_digits (drop (2 * l.i) l.text)) ≡ all_digits l.text)
-    × (l.seen < 16 → sets l.bytes l.i (bytes_from (drop (2 * l.i) l.text)) ≡ sets l.initial.bytes 0 (bytes_from l.text))
-    × (l.i ≤ l.count)
-
-abbrev pub decreases-loop-i : goal.decreases-loop-i
-decreases-loop-i l = l.count - l.i
+invariant-loop-i l = record {
+  decides : (ltb l.seen 16 && all_digits (drop (2 * l.i) l.text)) ≡ all_digits l.text;
+  stores : l.seen < 16 → sets l.bytes l.i (bytes_from (drop (2 * l.i) l.text)) ≡ sets l.initial.bytes 0 (bytes_from l.text);
+}
