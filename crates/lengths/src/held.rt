@@ -5,8 +5,7 @@ ghost use Rattle.layout.specs.Frame.{places};
 ghost use Rattle.layout.specs.Shape.{list_places};
 
 use frame::place::*;
-use frame::{Kind, PLACES, Record, Written};
-use refusal::number;
+use frame::{Kind, PLACES, Record};
 use std::io;
 
 // A record with 1 in every place: each answer is yes and each option there, a list has one SNA, a name one letter.
@@ -17,25 +16,20 @@ pub fn ones() -> Record {
 }
 
 // A list with all its identities in one form. Those that its count leaves out are not looked at.
-pub fn listed(values: Record, place: usize, count: u32, form: u32) -> Record
+pub fn listed(mut values: Record, place: usize, count: u32, form: u32) -> Record
     requires { place + list_places Numbers ≤ places }
 {
-    let mut r = values;
-    r.place[place] = count;
-    for i in 0..10 {
-        r.place[place + 1 + IDENTITY_PLACES * i] = form;
+    values.place[place] = count;
+    for at in (place + 1..place + NUMBERS_PLACES).step_by(IDENTITY_PLACES) {
+        values.place[at] = form;
     }
-    r
+    values
 }
 
 // Prints what is told of the length of a record's frame.
-pub fn told(rt: &impl Print, name: &[u8], kind: Kind, values: Record) -> io::Result<()> {
-    rt.write_all(name)?;
+pub fn told(rt: &impl Print, name: &str, kind: Kind, values: Record) -> io::Result<()> {
     match frame::length(kind, &values.place) {
-        Written::Bits(n) => println!(rt; ": {n}"),
-        Written::Refused(refusal) => {
-            let number = number(refusal);
-            println!(rt; ": refused with {number}")
-        }
+        Ok(bits) => println!(rt; "{name}: {bits}"),
+        Err(refusal) => println!(rt; "{name}: refused with {refusal}"),
     }
 }

@@ -11,18 +11,18 @@ pub fn defines(rt: &impl Print) -> io::Result<()> {
     let mut r = ones();
     r.place[O_BIT] = 0;
     r.place[GIVEN] = NO;
-    told(rt, b"DEFINE, a call, no group", kind, r)?;
+    told(rt, "DEFINE, a call, no group", kind, r)?;
     r.place[CALL_RELATED] = NO;
-    told(rt, b"DEFINE, no call, no group", kind, r)?;
+    told(rt, "DEFINE, no call, no group", kind, r)?;
     r = listed(r, GROUPS, 1, SSI_FORM);
     r.place[GIVEN] = YES;
-    told(rt, b"DEFINE, one SSI", kind, r)?;
-    told(rt, b"DEFINE, radios of three forms", kind, middle_define())?;
+    told(rt, "DEFINE, one SSI", kind, r)?;
+    told(rt, "DEFINE, radios of three forms", kind, middle_define())?;
     let full = listed(ones(), GROUPS, 11, EXTENDED_FORM);
     let full = listed(full, OWNERS, 11, EXTENDED_FORM);
     let mut full = listed(full, RADIOS, 11, EXTENDED_FORM);
     full.place[NAME] = 16;
-    told(rt, b"DEFINE, all there is", kind, full)
+    told(rt, "DEFINE, all there is", kind, full)
 }
 
 // A range of SSIs, owners not included, a name of five letters, assigned to three radios, acknowledgement requested.
@@ -47,14 +47,14 @@ fn middle_define() -> Record {
 pub fn cancels(rt: &impl Print) -> io::Result<()> {
     let kind = Kind::Cancel;
     let mut r = ones();
-    told(rt, b"CANCEL, a call, an SNA", kind, r)?;
+    told(rt, "CANCEL, a call, an SNA", kind, r)?;
     r.place[cancel::CALL_RELATED] = NO;
     r.place[cancel::DEFINED_GROUP] = SSI_FORM;
     r.place[cancel::EXISTING_GROUP] = SSI_FORM;
-    told(rt, b"CANCEL, two SSIs", kind, r)?;
+    told(rt, "CANCEL, two SSIs", kind, r)?;
     r.place[cancel::DEFINED_GROUP] = EXTENDED_FORM;
     r.place[cancel::EXISTING_GROUP] = EXTENDED_FORM;
-    told(rt, b"CANCEL, all there is", kind, r)
+    told(rt, "CANCEL, all there is", kind, r)
 }
 
 // Table 23.
@@ -62,11 +62,11 @@ pub fn assigns(rt: &impl Print) -> io::Result<()> {
     let kind = Kind::Assign;
     let mut r = ones();
     r.place[assign::O_BIT] = 0;
-    told(rt, b"ASSIGN, an SNA", kind, r)?;
-    told(rt, b"ASSIGN, a name and a class", kind, middle_assign())?;
+    told(rt, "ASSIGN, an SNA", kind, r)?;
+    told(rt, "ASSIGN, a name and a class", kind, middle_assign())?;
     let mut full = listed(ones(), assign::GROUPS, 11, EXTENDED_FORM);
     full.place[assign::NAME] = 16;
-    told(rt, b"ASSIGN, all there is", kind, full)
+    told(rt, "ASSIGN, all there is", kind, full)
 }
 
 // An SSI, and one with its extension; acknowledged call, a name of two letters, class of usage.
@@ -87,13 +87,13 @@ pub fn deassigns(rt: &impl Print) -> io::Result<()> {
     let kind = Kind::Deassign;
     let mut r = ones();
     r.place[deassign::O_BIT] = 0;
-    told(rt, b"DEASSIGN, an SNA", kind, r)?;
+    told(rt, "DEASSIGN, an SNA", kind, r)?;
     r = listed(ones(), deassign::GROUPS, 4, SNA_FORM);
     r.place[deassign::GROUPS + 1 + IDENTITY_PLACES] = SSI_FORM;
     r.place[deassign::GROUPS + 1 + 2 * IDENTITY_PLACES] = EXTENDED_FORM;
-    told(rt, b"DEASSIGN, groups of three forms", kind, r)?;
+    told(rt, "DEASSIGN, groups of three forms", kind, r)?;
     r = listed(ones(), deassign::GROUPS, 11, EXTENDED_FORM);
-    told(rt, b"DEASSIGN, all there is", kind, r)
+    told(rt, "DEASSIGN, all there is", kind, r)
 }
 
 // Table 21.
@@ -102,11 +102,11 @@ pub fn deletes(rt: &impl Print) -> io::Result<()> {
     let mut r = ones();
     r.place[delete::REMOVED] = NO;
     r.place[delete::O_BIT] = 0;
-    told(rt, b"DELETE, an SNA", kind, r)?;
+    told(rt, "DELETE, an SNA", kind, r)?;
     r = listed(ones(), delete::GROUPS, 1, SSI_FORM);
     r = listed(r, delete::RADIOS, 1, SSI_FORM);
-    told(rt, b"DELETE, an SSI from an SSI", kind, r)?;
+    told(rt, "DELETE, an SSI from an SSI", kind, r)?;
     r = listed(ones(), delete::GROUPS, 11, EXTENDED_FORM);
     r = listed(r, delete::RADIOS, 11, EXTENDED_FORM);
-    told(rt, b"DELETE, all there is", kind, r)
+    told(rt, "DELETE, all there is", kind, r)
 }

@@ -8,27 +8,27 @@ use std::io;
 pub fn define_acks(rt: &impl Print) -> io::Result<()> {
     let kind = Kind::DefineAck;
     let mut r = ones();
-    told(rt, b"DEFINE-ACK, its O-bit 1", kind, r)?;
+    told(rt, "DEFINE-ACK, its O-bit 1", kind, r)?;
     r.place[define_ack::O_BIT] = 0;
-    told(rt, b"DEFINE-ACK, a call, an SNA", kind, r)?;
+    told(rt, "DEFINE-ACK, a call, an SNA", kind, r)?;
     r.place[define_ack::CALL_RELATED] = NO;
-    told(rt, b"DEFINE-ACK, an SNA", kind, r)?;
+    told(rt, "DEFINE-ACK, an SNA", kind, r)?;
     r = listed(r, define_ack::GROUPS, 1, SSI_FORM);
-    told(rt, b"DEFINE-ACK, one SSI", kind, r)?;
+    told(rt, "DEFINE-ACK, one SSI", kind, r)?;
     r = listed(r, define_ack::GROUPS, 11, EXTENDED_FORM);
     r.place[define_ack::CALL_RELATED] = YES;
-    told(rt, b"DEFINE-ACK, all there is", kind, r)
+    told(rt, "DEFINE-ACK, all there is", kind, r)
 }
 
 // Table 34.
 pub fn cancel_acks(rt: &impl Print) -> io::Result<()> {
     let kind = Kind::CancelAck;
     let mut r = ones();
-    told(rt, b"CANCEL-ACK, a call", kind, r)?;
+    told(rt, "CANCEL-ACK, a call", kind, r)?;
     r.place[cancel_ack::CALL_RELATED] = NO;
-    told(rt, b"CANCEL-ACK, an SNA", kind, r)?;
+    told(rt, "CANCEL-ACK, an SNA", kind, r)?;
     r.place[cancel_ack::DEFINED_GROUP] = EXTENDED_FORM;
-    told(rt, b"CANCEL-ACK, all there is", kind, r)
+    told(rt, "CANCEL-ACK, all there is", kind, r)
 }
 
 // Table 24.
@@ -36,22 +36,22 @@ pub fn assigning_acks(rt: &impl Print) -> io::Result<()> {
     let kind = Kind::AssigningAck;
     let mut r = ones();
     r.place[assigning_ack::O_BIT] = 0;
-    told(rt, b"ASSIGNING-ACK, an SNA", kind, r)?;
+    told(rt, "ASSIGNING-ACK, an SNA", kind, r)?;
     r = listed(ones(), assigning_ack::GROUPS, 2, SSI_FORM);
-    told(rt, b"ASSIGNING-ACK, a range", kind, r)?;
+    told(rt, "ASSIGNING-ACK, a range", kind, r)?;
     r = listed(r, assigning_ack::GROUPS, 11, EXTENDED_FORM);
-    told(rt, b"ASSIGNING-ACK, all there is", kind, r)
+    told(rt, "ASSIGNING-ACK, all there is", kind, r)
 }
 
 // Table 26.
 pub fn deassigning_acks(rt: &impl Print) -> io::Result<()> {
     let kind = Kind::DeassigningAck;
     let mut r = ones();
-    told(rt, b"DEASSIGNING-ACK, an SNA", kind, r)?;
+    told(rt, "DEASSIGNING-ACK, an SNA", kind, r)?;
     r = listed(r, deassigning_ack::GROUPS, 3, SSI_FORM);
-    told(rt, b"DEASSIGNING-ACK, two SSIs", kind, r)?;
+    told(rt, "DEASSIGNING-ACK, two SSIs", kind, r)?;
     r = listed(r, deassigning_ack::GROUPS, 11, EXTENDED_FORM);
-    told(rt, b"DEASSIGNING-ACK, all there is", kind, r)
+    told(rt, "DEASSIGNING-ACK, all there is", kind, r)
 }
 
 // Table 22.
@@ -59,15 +59,10 @@ pub fn delete_acks(rt: &impl Print) -> io::Result<()> {
     let kind = Kind::DeleteAck;
     let mut r = ones();
     r.place[delete_ack::O_BIT] = 0;
-    told(rt, b"DELETE-ACK, an SNA", kind, r)?;
+    told(rt, "DELETE-ACK, an SNA", kind, r)?;
     r = listed(r, delete_ack::GROUPS, 3, SSI_FORM);
     r.place[delete_ack::GROUPS + 1 + IDENTITY_PLACES] = EXTENDED_FORM;
-    told(
-        rt,
-        b"DELETE-ACK, an SSI and one with its extension",
-        kind,
-        r,
-    )?;
+    told(rt, "DELETE-ACK, an SSI and one with its extension", kind, r)?;
     r = listed(r, delete_ack::GROUPS, 11, EXTENDED_FORM);
-    told(rt, b"DELETE-ACK, all there is", kind, r)
+    told(rt, "DELETE-ACK, all there is", kind, r)
 }
