@@ -4,7 +4,7 @@ use mathlib.Core.Path.{◌≡◌, sym, ◌∙◌}
 use borrow.Fn.Kinds.{Dens, res_t, ended_of}
 use contract.Lifetimes.{Lfts}
 use denote.Triple.Clauses.{AtExit}
-use Rattle.refusal.proofs.Unique.{Unique}
+pub use Rattle.refusal.proofs.Unique.{Unique}
 use Rattle.table.proofs.fields.count_field.Kinds as count-field-kinds
 use Rattle.table.proofs.fields.count_field.Reads as count-field
 use Rattle.table.proofs.fields.number.Kinds as number-kinds
