@@ -1,137 +1,133 @@
 -- Laws of who leaves by a delete: listed radios kept in lent room, the radios of a group's stretch, and their orders laid group by group.
-use mathlib.Core.Path.{◌≡◌, refl, sym, ap, ◌∙◌}
+use mathlib.Core.Path.{◌≡◌, sym, ap, ◌∙◌}
 use mathlib.Core.Bool.{Bool, true, false, cond}
 use mathlib.Core.List.{List, [], ◌∷◌, ◌++◌, map, map-map, append-nil}
 use Prim.Native.Nat.{ℕ, ◌+◌, ◌-◌, ◌≤◌, ◌<◌}
 use native.Mathlib.Numerals.{add-one}
 use native.Mathlib.Omega.{arith}
-use lib.ListN.{length, get_or, set, take, drop, length-append, length-map, length-drop, get_or-map}
-use lib.Seq.{paste, take-suc, take_at, take-take, length-take-le, get_or-drop, get_or-take}
-use Rattle.rules.specs.Named.{max_numbers}
-use Rattle.rules.specs.Lists.{keep, present}
-use Rattle.rules.specs.Entries.{find}
+use lib.ListN.{length, get_or, set, take, drop, length-append, length-map, length-drop, take-append-drop}
+use lib.Seq.{paste, take-suc, length-take-le, get_or_at}
+use Rattle.std.specs.Prelude.{Option}
+use Rattle.std.proofs.lemmas.List.{drop-take}
+use Rattle.rules.specs.Lists.{keep}
 use Rattle.rules.specs.Mark.{Mark}
-use Rattle.rules.specs.Ledger.{Pair, same_pair, radios_of}
-use Rattle.rules.specs.Refusals.{max_pairs}
+use Rattle.rules.specs.Ledger.{Pair, radios_of}
 use Rattle.rules.specs.Outgoing.{Outgoing, deassign, orders}
-use Rattle.rules.proofs.ListLaws.{length-keep}
 use Rattle.rules.proofs.Walks.{keep_append}
 use Rattle.order.specs.Walks.{left, onto}
-use Rattle.order.proofs.Walks.{onto-more, map-left}
-use Rattle.store.specs.Storage.{Rows, Contents, pair_of, pair_row, pairs_of, pair_count}
+use Rattle.order.proofs.Walks.{rest-cons, map-left}
+use Rattle.store.specs.Storage.{Rows, Contents, pair_of, pair_count}
 use Rattle.store.specs.Form.{Sound}
 use Rattle.store.specs.Places.{stretch_of}
 use Rattle.store.specs.declared.Stretch.{Stretch}
 use Rattle.store.proofs.FormLaws.{pairs-rise, radios-narrow}
-use Rattle.store.proofs.Rows.{length-items}
 use Rattle.store.proofs.Stretches.{Stretched, stretched}
 use Rattle.replies.specs.Sending.{order_row}
-use Rattle.sending.specs.Pushed.{pushed}
-use Rattle.sending.proofs.Pushing.{pushed-fits, length-rows, join-turn, join_front, send-turn}
-use Rattle.deleting.specs.Deassigned.{among, deassigned, deassign_orders, Stretches, deassign_rows, stretch_radios}
+use Rattle.sending.proofs.Pushing.{push-turn, join-turn, join_front, send-turn}
+use Rattle.deleting.specs.Deassigned.{deassigned, deassign_orders, Stretches, deassign_rows, radio_in, stretch_radios}
 
 -- ---- listed radios ----
 
--- a walk that keeps what passes at the front of lent room
-module _ (p : ℕ → Bool) (xs out out₀ : List ℕ) (i k : ℕ) (h : i < length xs)
-    (n : k ≡ length (keep p (take i xs))) (e : out ≡ onto (keep p (take i xs)) out₀) where
+-- a walk that lays an order to each radio that passes
+module _ (p : ℕ → Bool) (xs : List ℕ) (g at : ℕ) (out out₀ : Rows) (i k : ℕ) (h : i < length xs)
+    (n : k ≡ length (keep p (take i xs))) (e : out ≡ paste out₀ at (deassign_rows g (keep p xs)) k) where
   kept-turn : (b : Bool) → p (get_or xs i 0) ≡ b → keep p (take (i + 1) xs) ≡ keep p (take i xs) ++ cond b (get_or xs i 0 ∷ []) []
   kept-turn b q = rw (add-one, take-suc xs i 0 h, keep_append p (take i xs) (get_or xs i 0 ∷ []), q)
 
-  pub kept_in : k < length out₀ → p (get_or xs i 0) ≡ true
-      → (k + 1 ≡ length (keep p (take (i + 1) xs))) × (set out k (get_or xs i 0) ≡ onto (keep p (take (i + 1) xs)) out₀)
-  kept_in r q =
-      rw (kept-turn true q) (
-        simp length-append (omega arith),
-        ap (λ (z : List ℕ). set z k (get_or xs i 0)) e ∙ rw n (onto-more (keep p (take i xs)) out₀ (get_or xs i 0) (rw n at r)),
+  -- those kept of the first, this one, and those of the others
+  kept-whole : p (get_or xs i 0) ≡ true → keep p xs ≡ keep p (take i xs) ++ (get_or xs i 0 ∷ keep p (drop (i + 1) xs))
+  kept-whole q =
+      ap (keep p) (sym (take-append-drop i xs)) ∙ keep_append p (take i xs) (drop i xs)
+      ∙ ap (λ (l : List ℕ). keep p (take i xs) ++ l) (ap (keep p) (rest-cons xs i 0 h)
+      ∙ ap (λ (b : Bool). cond b (get_or xs i 0 ∷ keep p (drop (i + 1) xs)) (keep p (drop (i + 1) xs))) q)
+
+  pub kept-more : p (get_or xs i 0) ≡ true → k < length (keep p xs)
+  kept-more q = omega (
+    arith,
+    ap length (kept-whole q),
+    length-append (keep p (take i xs)) (get_or xs i 0 ∷ keep p (drop (i + 1) xs)),
+    n,
+  )
+
+  pub laid_in : at + length (keep p xs) ≤ length out₀ → p (get_or xs i 0) ≡ true → (row : List ℕ)
+      → row ≡ order_row (record { kind = deassign; radio = get_or xs i 0; group = g })
+      → (k + 1 ≡ length (keep p (take (i + 1) xs))) × (set out (at + k) row ≡ paste out₀ at (deassign_rows g (keep p xs)) (k + 1))
+  laid_in r q row d =
+      let here : get_or (keep p xs) k 0 ≡ get_or xs i 0 =
+      ap (λ (l : List ℕ). get_or l k 0) (kept-whole q) ∙ get_or_at (keep p (take i xs)) (get_or xs i 0) (keep p (drop (i + 1) xs)) 0 k (sym n) in
+      let t = ap length (kept-turn true q) ∙ length-append (keep p (take i xs)) (get_or xs i 0 ∷ []) in (
+        omega (arith, t, n),
+        push-turn (keep p xs) out out₀ at deassign g k (kept-more q) r e row
+            (d ∙ ap (λ (x : ℕ). order_row (record { kind = deassign; radio = x; group = g })) (sym here)),
       )
 
-  pub kept_out : p (get_or xs i 0) ≡ false → (k ≡ length (keep p (take (i + 1) xs))) × (out ≡ onto (keep p (take (i + 1) xs)) out₀)
-  kept_out q = rw (kept-turn false q, append-nil) (n, e)
-
-pub among-few : (pairs : List (Pair × Mark)) (g : ℕ) (radios : List ℕ) → length (among pairs g radios) ≤ length radios
-among-few pairs g radios = length-keep (λ r. present (find same_pair pairs (g, r))) radios
-
--- the orders to radios that stand at the front of a room are laid, where they fit
-pub pushed_front : (l room room' : List ℕ) (g n at : ℕ) (out out' : Rows) → n ≡ length l → room' ≡ onto l room → at + n ≤ length out
-    → out' ≡ pushed out at (deassign_rows g (take n room')) → out' ≡ paste out at (deassign_rows g l) n
-pushed_front l room room' g n at out out' e d h q =
-    let f : take n room' ≡ l = rw d (take_at l (drop (length l) room) n (sym e)) in
-    let k : length (deassign_rows g l) ≡ n = length-rows deassign g l ∙ sym e in
-    q ∙ ap (λ (z : List ℕ). pushed out at (deassign_rows g z)) f ∙ pushed-fits out at (deassign_rows g l) (omega (arith, k, h))
-    ∙ ap (paste out at (deassign_rows g l)) k
+  pub laid_out : p (get_or xs i 0) ≡ false → k ≡ length (keep p (take (i + 1) xs))
+  laid_out q = rw (kept-turn false q, append-nil) n
 
 -- ---- the radios of a group's stretch ----
 
 -- contents in their form have the pairs in stretches
-pub stretches : (c : Contents) → Sound c → Stretches (pair_count c) c.pairs
-stretches c w = record { inside = omega (arith, w.pairs, w.few_pairs); few = w.few_pairs; rise = pairs-rise c w; narrow = radios-narrow c w }
+pub stretches : (c : Contents) → Sound c → Stretches (take (pair_count c) c.pairs)
+stretches c w = record {
+  few = omega (arith, w.few_pairs, length-take-le (pair_count c) c.pairs (omega (arith, w.pairs, w.few_pairs)));
+  rise = pairs-rise c w;
+  narrow = radios-narrow c w;
+}
 
 module _ (from to : ℕ) (rows : Rows) where
-  pub radios-count : to ≤ length rows → length (stretch_radios from to rows) ≡ to - from
-  radios-count h = length-map (left from to rows) _ ∙ length-drop from (take to rows) ∙ ap (λ (n : ℕ). n - from) (length-take-le to rows h)
+  -- the rows of a stretch, cut from all
+  part : from ≤ to → take (to - from) (drop from rows) ≡ left from to rows
+  part h = let e : from + (to - from) ≡ to = omega arith in sym (drop-take from (to - from) rows) ∙ ap (λ (n : ℕ). drop from (take n rows)) e
 
-  pub radio-in : (i : ℕ) → from + i < to → get_or (stretch_radios from to rows) i 0 ≡ (pair_of (get_or rows (from + i) [])).0.1
-  radio-in i h = get_or-map (λ (row : List ℕ). (pair_of row).0.1) (left from to rows) i []
-      ∙ ap (λ (row : List ℕ). (pair_of row).0.1) (get_or-drop from (take to rows) i [] ∙ get_or-take to rows (from + i) [] h)
-
-  -- in as many rows as are in use
-  radios-of : (count : ℕ) → to ≤ count → map (λ (e : Pair × Mark). e.0.1) (left from to (pairs_of count rows)) ≡ stretch_radios from to rows
-  radios-of count h =
+  radios-of : map (λ (e : Pair × Mark). e.0.1) (left from to (map pair_of rows)) ≡ stretch_radios from to rows
+  radios-of =
       let radio : Pair × Mark → ℕ = λ e. e.0.1 in
-      ap (map radio) (map-left pair_of from to (take count rows)) ∙ map-map radio pair_of (left from to (take count rows))
-      ∙ ap (λ (l : Rows). map (λ (row : List ℕ). (pair_of row).0.1) (drop from l)) (take-take to count rows h)
+      ap (map radio) (map-left pair_of from to rows) ∙ map-map radio pair_of (left from to rows)
 
--- the stretch lies in the rows in use, and its radios are the group's
-pub record Spans (count : ℕ) (rows : Rows) (g : ℕ) (s : Stretch) : Type 0 where
+-- the stretch lies in the rows, and its radios are the group's
+pub record Spans (rows : Rows) (g : ℕ) (s : Stretch) : Type 0 where
   pub ordered : s.from ≤ s.to
-  pub inside : s.to ≤ count
-  pub radios : radios_of g (pairs_of count rows) ≡ stretch_radios s.from s.to rows
-  pub counts : length (radios_of g (pairs_of count rows)) ≡ s.to - s.from
+  pub inside : s.to ≤ length rows
+  pub radios : map radio_in (take (s.to - s.from) (drop s.from rows)) ≡ radios_of g (map pair_of rows)
+  pub counts : length (radios_of g (map pair_of rows)) ≡ s.to - s.from
 
-module _ (count : ℕ) (rows : Rows) (w : Stretches count rows) (g : ℕ) where
-  pub spans : (s : Stretch) → s ≡ stretch_of (pairs_of count rows) g → Spans count rows g s
-  spans s e =
-      let t : Stretched (pairs_of count rows) g s = rw e (stretched (pairs_of count rows) g w.rise w.narrow) in
-      let h : s.to ≤ count = omega (arith, t.inside, length-items pair_of pair_row rows count w.inside) in
-      let r = t.radios ∙ radios-of s.from s.to rows count h in
-      record {
-        ordered = t.ordered;
-        inside = h;
-        radios = r;
-        counts = ap length r ∙ radios-count s.from s.to rows (omega (arith, h, w.inside));
-      }
-
-  -- a group has no more radios than there are pairs
-  pub deassigned-few : (leave listed : Bool) (radios : List ℕ) → length radios ≤ max_numbers
-      → length (deassigned leave listed radios (pairs_of count rows) g) ≤ max_pairs
-  deassigned-few false listed radios h = omega arith
-  deassigned-few true true radios h = omega (arith, h, among-few (pairs_of count rows) g radios)
-  deassigned-few true false radios h = let s = spans (stretch_of (pairs_of count rows) g) refl in omega (arith, s.counts, s.inside, w.few)
+pub spans : (rows : Rows) → Stretches rows → (g : ℕ) (s : Stretch) → s ≡ stretch_of (map pair_of rows) g → Spans rows g s
+spans rows w g s e =
+    let t : Stretched (map pair_of rows) g s = rw e (stretched (map pair_of rows) g w.rise w.narrow) in
+    let h : s.to ≤ length rows = omega (arith, t.inside, length-map rows pair_of) in
+    let r = ap (map radio_in) (part s.from s.to rows t.ordered) ∙ sym (t.radios ∙ radios-of s.from s.to rows) in
+    let n : length (take (s.to - s.from) (drop s.from rows)) ≡ s.to - s.from =
+    length-take-le (s.to - s.from) (drop s.from rows) (omega (arith, length-drop s.from rows, h)) in
+    record {
+      ordered = t.ordered;
+      inside = h;
+      radios = r;
+      counts = sym (ap length r) ∙ length-map (take (s.to - s.from) (drop s.from rows)) radio_in ∙ n;
+    }
 
 -- ---- orders, group by group ----
 
 -- the group at place i of those named, and how many leave it
-module _ (leave listed : Bool) (radios : List ℕ) (pairs : List (Pair × Mark)) (named : List ℕ) (i g n at : ℕ) (h : i < length named)
-    (e : g ≡ get_or named i 0) (m : n ≡ length (deassigned leave listed radios pairs g))
-    (a : at ≡ length (deassign_orders leave listed radios pairs (take i named))) where
+module _ (leave : Bool) (radios : Option (List ℕ)) (pairs : List (Pair × Mark)) (named : List ℕ) (i g n at : ℕ) (h : i < length named)
+    (e : g ≡ get_or named i 0) (m : n ≡ length (deassigned leave radios pairs g))
+    (a : at ≡ length (deassign_orders leave radios pairs (take i named))) where
   abbrev sent : ℕ → List Outgoing
-  sent x = orders deassign x (deassigned leave listed radios pairs x)
+  sent x = orders deassign x (deassigned leave radios pairs x)
 
   count_at : n ≡ length (sent (get_or named i 0))
-  count_at = m ∙ ap (λ (x : ℕ). length (deassigned leave listed radios pairs x)) e ∙ sym (length-map (deassigned leave listed radios pairs (get_or named i 0)) _)
+  count_at = m ∙ ap (λ (x : ℕ). length (deassigned leave radios pairs x)) e ∙ sym (length-map (deassigned leave radios pairs (get_or named i 0)) _)
 
-  pub counted : at + n ≡ length (deassign_orders leave listed radios pairs (take (i + 1) named))
+  pub counted : at + n ≡ length (deassign_orders leave radios pairs (take (i + 1) named))
   counted =
-      rw (join-turn sent named i h, length-append (deassign_orders leave listed radios pairs (take i named)) (sent (get_or named i 0)))
+      rw (join-turn sent named i h, length-append (deassign_orders leave radios pairs (take i named)) (sent (get_or named i 0)))
       (omega (arith, a, count_at))
 
-  pub within : at + n ≤ length (deassign_orders leave listed radios pairs named)
+  pub within : at + n ≤ length (deassign_orders leave radios pairs named)
   within = omega (arith, counted, join_front sent named (i + 1))
 
   -- a turn that lays the group's orders
-  pub sent-more : (out out' out₀ : Rows) → out ≡ onto (map order_row (deassign_orders leave listed radios pairs (take i named))) out₀
-      → out' ≡ paste out at (deassign_rows g (deassigned leave listed radios pairs g)) n
-      → out' ≡ onto (map order_row (deassign_orders leave listed radios pairs (take (i + 1) named))) out₀
+  pub sent-more : (out out' out₀ : Rows) → out ≡ onto (map order_row (deassign_orders leave radios pairs (take i named))) out₀
+      → out' ≡ paste out at (deassign_rows g (deassigned leave radios pairs g)) n
+      → out' ≡ onto (map order_row (deassign_orders leave radios pairs (take (i + 1) named))) out₀
   sent-more out out' out₀ o q =
       (send-turn sent named out out' out₀ i at n h a count_at o (q ∙ ap (λ (x : ℕ). paste out at (map order_row (sent x)) n) e)).1

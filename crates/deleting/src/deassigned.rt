@@ -1,114 +1,130 @@
 // The radios that a delete deassigns in a group.
-ghost use Rattle.std.specs.Prelude.{◌+◌, ◌-◌, ◌≤◌, length, ◌≡◌};
+ghost use Rattle.std.specs.Prelude.{◌+◌, ◌≤◌, length, map, ◌≡◌};
 ghost use Rattle.std.proofs.Math.Seq.{paste};
-ghost use Rattle.order.specs.Keys.{radio_keys};
-ghost use Rattle.order.specs.Walks.{onto};
-ghost use Rattle.store.specs.Storage.{pairs_of};
-ghost use Rattle.deleting.specs.Deassigned.{among, deassigned, Stretches, deassign_rows, stretch_radios};
+ghost use Rattle.rules.specs.Entries.{find};
+ghost use Rattle.rules.specs.Ledger.{same_pair, radios_of};
+ghost use Rattle.rules.specs.Lists.{present};
+ghost use Rattle.order.specs.Keys.{keys_held};
+ghost use Rattle.store.specs.Storage.{pair_of};
+ghost use Rattle.deleting.specs.Deassigned.{among, deassigned, Stretches, deassign_rows, radio_in};
+ghost use Rattle.deleting.specs.Deletes.{listed};
 
-use order::keys::{radio_at, radio_count};
+use crate::asked::Asked;
 use order::{GroupKey, RadioKey, Radios};
-use rows::{MAX_NUMBERS, ORDER_WORDS, PAIR_RADIO, PAIR_WORDS};
-use sending::{DEASSIGN, order_row, push_orders};
-use store::places::{pair_place, stands, stretch_of};
+use rows::{ORDER_WORDS, PAIR_RADIO, PAIR_WORDS};
+use sending::{DEASSIGN, order_row};
+use store::places::{place, stands, stretch_of};
 
-// The listed radios that a group has; their number is returned.
-fn found_among(
-    pairs: &[[u64; PAIR_WORDS]],
-    count: usize,
-    group: GroupKey,
-    radios: Radios,
-    out: &mut [u64],
-) -> usize
-    requires { Stretches count pairs.now × (length (radio_keys radios) ≤ length out.old) }
-    ensures { (result ≡ length (among (pairs_of count pairs.now) group.0 (radio_keys radios)))
-        × (out.new ≡ onto (among (pairs_of count pairs.now) group.0 (radio_keys radios)) out.old) }
+// The pairs that stand, a stretch a group.
+#[derive(Clone, Copy)]
+pub struct Pairs<'a> {
+    pub rows: &'a [[u64; PAIR_WORDS]],
+    ghost stretches: { Stretches rows.now },
+}
+
+// A deassign order to the radio of each row, from place `at` on.
+fn push_rows(rows: &[[u64; PAIR_WORDS]], group: GroupKey, out: &mut [[u64; ORDER_WORDS]], at: usize)
+    requires { at + length rows.now ≤ length out.old }
+    ensures { out.new ≡ paste out.old at (deassign_rows group.0 (map radio_in rows.now)) (length rows.now) }
 {
-    let mut kept: usize = 0;
-    let mut i: usize = 0;
-    let end = radio_count(radios);
-    while i < end {
-        let radio = radio_at(radios, i);
-        i += 1;
-        if stands(pair_place(pairs, count, group, radio)) {
-            out[kept] = radio.0;
-            kept += 1;
+    for (i, row) in rows.iter().enumerate() {
+        out[at + i] = order_row(DEASSIGN, RadioKey(row[PAIR_RADIO]), group);
+    }
+}
+
+impl<'a> Pairs<'a> {
+    // Whether a group has a radio.
+    fn has(self, group: GroupKey, radio: RadioKey) -> bool
+        ensures { result ≡ present (find same_pair (map pair_of self.entry.rows.now) (group.0, radio.0)) }
+    {
+        stands(place(self.rows, (group, radio)))
+    }
+
+    // How many radios a group has.
+    fn count(self, group: GroupKey) -> usize
+        ensures { result ≡ length (radios_of group.0 (map pair_of self.entry.rows.now)) }
+    {
+        let stretch = stretch_of(self.rows, group);
+        stretch.to - stretch.from
+    }
+
+    // How many radios of a list a group has.
+    fn count_among(self, group: GroupKey, radios: &Radios) -> usize
+        ensures { result ≡ length (among (map pair_of self.entry.rows.now) group.0 (keys_held radios.now)) }
+    {
+        radios
+            .as_slice()
+            .iter()
+            .filter(|radio| self.has(group, RadioKey(**radio)))
+            .count()
+    }
+
+    // How many radios a delete deassigns in a group.
+    pub fn count_deassigned(self, group: GroupKey, asked: &Asked) -> usize
+        ensures { result ≡ length (deassigned asked.now.deassign (listed asked.now) (map pair_of self.entry.rows.now) group.0) }
+    {
+        if !asked.deassign {
+            return 0;
+        }
+        match &asked.radios {
+            Some(radios) => self.count_among(group, radios),
+            None => self.count(group),
         }
     }
-    kept
-}
 
-// How many radios a delete deassigns in a group.
-pub fn count_deassigned(
-    pairs: &[[u64; PAIR_WORDS]],
-    count: usize,
-    group: GroupKey,
-    deassign: bool,
-    listed: bool,
-    radios: Radios,
-) -> usize
-    requires { Stretches count pairs.now }
-    ensures { result ≡ length (deassigned deassign listed (radio_keys radios) (pairs_of count pairs.now) group.0) }
-{
-    if !deassign {
-        return 0;
+    // A deassign order to each radio of a group, from place `at` on; how many they are.
+    fn push_all(self, group: GroupKey, out: &mut [[u64; ORDER_WORDS]], at: usize) -> usize
+        requires { at + length (radios_of group.0 (map pair_of self.rows.now)) ≤ length out.old }
+        ensures { (result ≡ length (radios_of group.0 (map pair_of self.entry.rows.now)))
+            × (out.new ≡ paste out.old at (deassign_rows group.0 (radios_of group.0 (map pair_of self.entry.rows.now))) result) }
+    {
+        let stretch = stretch_of(self.rows, group);
+        let rows = &self.rows[stretch.from..stretch.to];
+        push_rows(rows, group, out, at);
+        rows.len()
     }
-    if listed {
-        let mut room = [0u64; MAX_NUMBERS];
-        return found_among(pairs, count, group, radios, &mut room);
-    }
-    let stretch = stretch_of(pairs, count, group);
-    stretch.to - stretch.from
-}
 
-// A deassign order to each radio of a stretch, from place `at` on.
-fn push_stretch(
-    pairs: &[[u64; PAIR_WORDS]],
-    from: usize,
-    to: usize,
-    group: GroupKey,
-    out: &mut [[u64; ORDER_WORDS]],
-    at: usize,
-)
-    requires { (from ≤ to) × (to ≤ length pairs.now) × (at + (to - from) ≤ length out.old) }
-    ensures { out.new ≡ paste out.old at (deassign_rows group.0 (stretch_radios from to pairs.now)) (to - from) }
-{
-    let count = to - from;
-    let mut i: usize = 0;
-    while i < count {
-        let row = pairs[from + i];
-        out[at + i] = order_row(DEASSIGN, RadioKey(row[PAIR_RADIO]), group);
-        i += 1;
+    // A deassign order to each radio of a list that a group has, from place `at` on; how many they are.
+    fn push_among(
+        self,
+        group: GroupKey,
+        radios: &Radios,
+        out: &mut [[u64; ORDER_WORDS]],
+        at: usize,
+    ) -> usize
+        requires { at + length (among (map pair_of self.rows.now) group.0 (keys_held radios.now)) ≤ length out.old }
+        ensures { (result ≡ length (among (map pair_of self.entry.rows.now) group.0 (keys_held radios.now)))
+            × (out.new ≡ paste out.old at (deassign_rows group.0 (among (map pair_of self.entry.rows.now) group.0 (keys_held radios.now))) result) }
+    {
+        let mut n: usize = 0;
+        for radio in radios.as_slice() {
+            if self.has(group, RadioKey(*radio)) {
+                out[at + n] = order_row(DEASSIGN, RadioKey(*radio), group);
+                n += 1;
+            }
+        }
+        n
     }
-}
 
-// Deassign orders to the radios that a delete deassigns in a group, from place `at` on; how many they are.
-pub fn push_deassigned(
-    pairs: &[[u64; PAIR_WORDS]],
-    count: usize,
-    group: GroupKey,
-    deassign: bool,
-    listed: bool,
-    radios: Radios,
-    out: &mut [[u64; ORDER_WORDS]],
-    at: usize,
-) -> usize
-    requires { Stretches count pairs.now
-        × (at + length (deassigned deassign listed (radio_keys radios) (pairs_of count pairs.now) group.0) ≤ length out.old) }
-    ensures { (result ≡ length (deassigned deassign listed (radio_keys radios) (pairs_of count pairs.now) group.0))
-        × (out.new ≡ paste out.old at
-        (deassign_rows group.0 (deassigned deassign listed (radio_keys radios) (pairs_of count pairs.now) group.0)) result) }
-{
-    if !deassign {
-        return 0;
+    // Deassign orders to the radios that a delete deassigns in a group, from place `at` on; how many they are.
+    pub fn push_deassigned(
+        self,
+        group: GroupKey,
+        asked: &Asked,
+        out: &mut [[u64; ORDER_WORDS]],
+        at: usize,
+    ) -> usize
+        requires { at + length (deassigned asked.now.deassign (listed asked.now) (map pair_of self.rows.now) group.0) ≤ length out.old }
+        ensures { (result ≡ length (deassigned asked.now.deassign (listed asked.now) (map pair_of self.entry.rows.now) group.0))
+            × (out.new ≡ paste out.old at
+            (deassign_rows group.0 (deassigned asked.now.deassign (listed asked.now) (map pair_of self.entry.rows.now) group.0)) result) }
+    {
+        if !asked.deassign {
+            return 0;
+        }
+        match &asked.radios {
+            Some(radios) => self.push_among(group, radios, out, at),
+            None => self.push_all(group, out, at),
+        }
     }
-    if listed {
-        let mut room = [0u64; MAX_NUMBERS];
-        let n = found_among(pairs, count, group, radios, &mut room);
-        push_orders(out, at, DEASSIGN, group, &room[..n]);
-        return n;
-    }
-    let stretch = stretch_of(pairs, count, group);
-    push_stretch(pairs, stretch.from, stretch.to, group, out, at);
-    stretch.to - stretch.from
 }

@@ -1,6 +1,7 @@
 #![tactic(auto)]
 
 // A delete: the named groups, or radios of them, go.
+mod asked;
 mod deassigned;
 mod outgoing;
 mod refusing;
@@ -10,13 +11,13 @@ ghost use Rattle.order.specs.Steps.{delete_step};
 ghost use Rattle.store.specs.Storage.{contents};
 ghost use Rattle.replies.specs.Sending.{Sends};
 
-use crate::outgoing::send_orders;
+use crate::deassigned::Pairs;
 use crate::refusing::delete_fault;
 use crate::remaining::{delete_groups, delete_pairs};
-use order::keys::{groups_in, radios_in};
-use order::{Itsi, Listed, Numbers};
-use replies::{Reply, Sent};
+use order::{Itsi, Numbers};
+use refusal::Refusal;
 use rows::{GROUP_COUNT, GROUP_WORDS, ORDER_WORDS, PAIR_COUNT, PAIR_WORDS};
+use store::form::Lent;
 
 // A delete: the named groups, or radios of them, go; radios of groups that stay are leaving first, where acknowledgement is asked for.
 pub fn delete(
@@ -27,58 +28,28 @@ pub fn delete(
     named: Numbers,
     remove: bool,
     deassign: bool,
-    radios: Listed,
+    radios: Option<Numbers>,
     acknowledgement: bool,
     out: &mut [[u64; ORDER_WORDS]],
-) -> Sent
+) -> Result<usize, Refusal>
     ensures { Sends (delete_step asker named remove deassign radios acknowledgement) out.old out.new
         (contents head.old groups.old pairs.old)
         (contents head.new groups.new pairs.new) result }
 {
-    let list = Listed {
-        given: true,
-        numbers: named,
-    };
-    let these = groups_in(asker, list);
-    let those = radios_in(asker, radios);
-    let fault = delete_fault(
+    let asks = asked::read(asker, named, remove, deassign, radios);
+    let lent = Lent {
         head,
         groups,
         pairs,
-        asker,
-        list,
-        these,
-        remove,
-        deassign,
-        radios,
-        those,
-        out.len(),
-    );
-    if let Reply::Refused(refusal) = fault {
-        return Sent::Refused(refusal);
-    }
-    let group_count = head[GROUP_COUNT];
-    let pair_count = head[PAIR_COUNT];
-    let sent = send_orders(
-        pairs,
-        pair_count as usize,
-        these,
-        deassign,
-        radios.given,
-        those,
-        out,
-    );
-    let left = delete_groups(groups, group_count as usize, these, remove);
-    let kept = delete_pairs(
-        pairs,
-        pair_count as usize,
-        these,
-        remove,
-        radios.given,
-        those,
-        acknowledgement,
-    );
-    head[GROUP_COUNT] = left as u64;
-    head[PAIR_COUNT] = kept as u64;
-    Sent::Orders(sent)
+    };
+    delete_fault(lent, asker, named, radios, &asks, out.len())?;
+    let stretches = Pairs {
+        rows: lent.pair_rows(),
+    };
+    let sent = stretches.send_orders(&asks, out);
+    let group_count = head[GROUP_COUNT] as usize;
+    let pair_count = head[PAIR_COUNT] as usize;
+    head[GROUP_COUNT] = delete_groups(groups, group_count, &asks) as u64;
+    head[PAIR_COUNT] = delete_pairs(pairs, pair_count, &asks, acknowledgement) as u64;
+    Ok(sent)
 }

@@ -1,60 +1,42 @@
 // The orders of a delete, in lent room.
-ghost use Rattle.std.specs.Prelude.{◌≤◌, length, ◌≡◌};
-ghost use Rattle.order.specs.Keys.{group_keys, radio_keys};
+ghost use Rattle.std.specs.Prelude.{◌≤◌, length, ltb, map, ◌≡◌};
 ghost use Rattle.store.specs.Lists.{Fills};
-ghost use Rattle.store.specs.Storage.{pairs_of};
+ghost use Rattle.store.specs.Storage.{pair_of};
 ghost use Rattle.replies.specs.Sending.{order_row};
-ghost use Rattle.deleting.specs.Deassigned.{deassign_orders, Stretches};
+ghost use Rattle.deleting.specs.Deassigned.{deassign_orders};
+ghost use Rattle.deleting.specs.Deletes.{named, listed};
 
-use crate::deassigned::{count_deassigned, push_deassigned};
-use order::keys::{group_at, group_count};
-use order::{Groups, Radios};
-use rows::{ORDER_WORDS, PAIR_WORDS};
+use crate::asked::Asked;
+use crate::deassigned::Pairs;
+use order::GroupKey;
+use rows::ORDER_WORDS;
 
-// How many orders a delete sends.
-pub fn count_orders(
-    pairs: &[[u64; PAIR_WORDS]],
-    count: usize,
-    named: Groups,
-    deassign: bool,
-    listed: bool,
-    radios: Radios,
-) -> usize
-    requires { Stretches count pairs.now }
-    ensures { result ≡ length (deassign_orders deassign listed (radio_keys radios) (pairs_of count pairs.now) (group_keys named)) }
-{
-    let end = group_count(named);
-    let mut total: usize = 0;
-    let mut i: usize = 0;
-    while i < end {
-        total += count_deassigned(pairs, count, group_at(named, i), deassign, listed, radios);
-        i += 1;
+impl<'a> Pairs<'a> {
+    // Whether a delete sends more orders than there is room for.
+    pub fn exceeds(self, asked: &Asked, room: usize) -> bool
+        ensures { result ≡ ltb room (length (deassign_orders asked.now.deassign (listed asked.now) (map pair_of self.entry.rows.now) (named asked.now))) }
+    {
+        let mut left = room;
+        for group in asked.groups.as_slice() {
+            let n = self.count_deassigned(GroupKey(*group), asked);
+            if left < n {
+                return true;
+            }
+            left -= n;
+        }
+        false
     }
-    total
-}
 
-// The orders of a delete, in the lent room; their number is returned.
-pub fn send_orders(
-    pairs: &[[u64; PAIR_WORDS]],
-    count: usize,
-    named: Groups,
-    deassign: bool,
-    listed: bool,
-    radios: Radios,
-    out: &mut [[u64; ORDER_WORDS]],
-) -> usize
-    requires { Stretches count pairs.now
-        × (length (deassign_orders deassign listed (radio_keys radios) (pairs_of count pairs.now) (group_keys named)) ≤ length out.old) }
-    ensures { Fills order_row (deassign_orders deassign listed (radio_keys radios) (pairs_of count pairs.now) (group_keys named))
-        out.old out.new result }
-{
-    let end = group_count(named);
-    let mut at: usize = 0;
-    let mut i: usize = 0;
-    while i < end {
-        let group = group_at(named, i);
-        at += push_deassigned(pairs, count, group, deassign, listed, radios, out, at);
-        i += 1;
+    // The orders of a delete, in the lent room; their number is returned.
+    pub fn send_orders(self, asked: &Asked, out: &mut [[u64; ORDER_WORDS]]) -> usize
+        requires { length (deassign_orders asked.now.deassign (listed asked.now) (map pair_of self.rows.now) (named asked.now)) ≤ length out.old }
+        ensures { Fills order_row (deassign_orders asked.now.deassign (listed asked.now) (map pair_of self.entry.rows.now) (named asked.now))
+            out.old out.new result }
+    {
+        let mut at: usize = 0;
+        for group in asked.groups.as_slice() {
+            at += self.push_deassigned(GroupKey(*group), asked, out, at);
+        }
+        at
     }
-    at
 }

@@ -1,126 +1,100 @@
 // What a delete is refused with: each rule over the whole order, in the order of the law.
-ghost use Rattle.std.specs.Prelude.{ltb, Bool, true, ◌≡◌};
+ghost use Rattle.std.specs.Prelude.{ltb, Bool, true, map, ◌≡◌};
 ghost use Rattle.rules.specs.ByNumber.{lower};
 ghost use Rattle.rules.specs.Lists.{rises};
-ghost use Rattle.rules.specs.Named.{numbers_in, max_numbers};
 ghost use Rattle.rules.specs.Refusals.{first};
-ghost use Rattle.order.specs.Keys.{fitting, groups_as, radios_as, group_keys, radio_keys};
-ghost use Rattle.order.specs.Lists.{list_of};
 ghost use Rattle.order.specs.Steps.{delete_step};
-ghost use Rattle.store.specs.Storage.{contents, pairs_of, groups_of};
+ghost use Rattle.store.specs.Lent.{contents_of};
+ghost use Rattle.store.specs.Storage.{pair_of, group_of};
 ghost use Rattle.replies.specs.Orders.{reply_of, Judges};
-ghost use Rattle.deleting.specs.Deletes.{form_tests, stand_tests};
-ghost use Rattle.deleting.specs.Deassigned.{Stretches};
+ghost use Rattle.deleting.specs.Deletes.{asked, named, listed, form_tests, stand_tests};
 
-use crate::outgoing::count_orders;
-use order::keys::radio_key;
+use crate::asked::Asked;
+use crate::deassigned::Pairs;
 use order::lists::{bad_list, untaken, wide_radio};
 use order::ranges::{bad_range, too_many};
-use order::{Groups, Itsi, Listed, RadioKey, Radios};
+use order::{Itsi, Numbers, RadioKey};
 use refusal::Refusal;
-use replies::Reply;
-use rows::{GROUP_COUNT, GROUP_WORDS, PAIR_COUNT, PAIR_WORDS};
+use rows::GROUP_WORDS;
 use store::Standing;
-use store::form::written;
+use store::form::Lent;
 use store::named::any_group;
 
 // What a delete is refused with for its form.
-fn form_fault(asker: Itsi, named: Listed, deassign: bool, radios: Listed) -> Reply
-    ensures { result ≡ reply_of (first (form_tests asker named deassign radios)) }
+fn form_fault(
+    asker: Itsi,
+    groups: Numbers,
+    deassign: bool,
+    radios: Option<Numbers>,
+) -> Result<(), Refusal>
+    ensures { result ≡ reply_of (first (form_tests asker groups deassign radios)) }
 {
-    let bad = wide_radio(asker)
-        | (bad_list(named) | (bad_list(radios) | (radios.given & !deassign)));
-    if bad {
-        return Reply::Refused(Refusal::BadOrder);
+    let groups = Some(groups);
+    if wide_radio(asker)
+        || bad_list(groups)
+        || bad_list(radios)
+        || (radios.is_some() && !deassign)
+    {
+        return Err(Refusal::BadOrder);
     }
-    let other = untaken(named) | untaken(radios);
-    if other {
-        return Reply::Refused(Refusal::FormNotTaken);
+    if untaken(groups) || untaken(radios) {
+        return Err(Refusal::FormNotTaken);
     }
-    let crossed = bad_range(asker, named) | bad_range(asker, radios);
-    if crossed {
-        return Reply::Refused(Refusal::BadRange);
+    if bad_range(asker, groups) || bad_range(asker, radios) {
+        return Err(Refusal::BadRange);
     }
-    let many = too_many(asker, named) | too_many(asker, radios);
-    if many {
-        return Reply::Refused(Refusal::TooManyNumbers);
+    if too_many(asker, groups) || too_many(asker, radios) {
+        return Err(Refusal::TooManyNumbers);
     }
-    Reply::Done
+    Ok(())
 }
 
 // What a delete is refused with for what stands.
 fn stand_fault(
     groups: &[[u64; GROUP_WORDS]],
-    group_count: usize,
-    pairs: &[[u64; PAIR_WORDS]],
-    pair_count: usize,
+    pairs: Pairs<'_>,
     asker: RadioKey,
-    named: Groups,
-    remove: bool,
-    deassign: bool,
-    listed: bool,
-    radios: Radios,
+    asked: &Asked,
     room: usize,
-) -> Reply
-    requires { (rises (lower ltb) (groups_of group_count groups.now) ≡ true) × Stretches pair_count pairs.now }
-    ensures { result ≡ reply_of (first (stand_tests (groups_of group_count groups.now) (pairs_of pair_count pairs.now)
-        asker.0 (group_keys named) remove deassign listed (radio_keys radios) room)) }
+) -> Result<(), Refusal>
+    requires { rises (lower ltb) (map group_of groups.now) ≡ true }
+    ensures { result ≡ reply_of (first (stand_tests (map group_of groups.now) (map pair_of pairs.entry.rows.now)
+        asker.0 (named asked.now) asked.now.remove asked.now.deassign (listed asked.now) room)) }
 {
-    if any_group(groups, group_count, named, asker, Standing::Missing) {
-        return Reply::Refused(Refusal::NoSuchGroup);
+    if any_group(groups, &asked.groups, asker, Standing::Missing) {
+        return Err(Refusal::NoSuchGroup);
     }
-    if any_group(groups, group_count, named, asker, Standing::Foreign) {
-        return Reply::Refused(Refusal::NotOwner);
+    if any_group(groups, &asked.groups, asker, Standing::Foreign) {
+        return Err(Refusal::NotOwner);
     }
-    let idle = !remove & !deassign;
-    if idle {
-        return Reply::Refused(Refusal::NothingToDo);
+    if !asked.remove && !asked.deassign {
+        return Err(Refusal::NothingToDo);
     }
-    if room < count_orders(pairs, pair_count, named, deassign, listed, radios) {
-        return Reply::Refused(Refusal::NoRoom);
+    if pairs.exceeds(asked, room) {
+        return Err(Refusal::NoRoom);
     }
-    Reply::Done
+    Ok(())
 }
 
-// What a delete is refused with, whether it asks for acknowledgement or not; `these` and `those` are the groups and radios of its lists.
+// What a delete is refused with, whether it asks for acknowledgement or not; its lists have been read.
 pub fn delete_fault(
-    head: &[u64],
-    groups: &[[u64; GROUP_WORDS]],
-    pairs: &[[u64; PAIR_WORDS]],
+    lent: Lent<'_>,
     asker: Itsi,
-    named: Listed,
-    these: Groups,
-    remove: bool,
-    deassign: bool,
-    radios: Listed,
-    those: Radios,
+    groups: Numbers,
+    radios: Option<Numbers>,
+    asks: &Asked,
     room: usize,
-) -> Reply
-    requires { (named.given ≡ true) × (these ≡ groups_as (fitting max_numbers (numbers_in asker.1 (list_of named))))
-        × (those ≡ radios_as (fitting max_numbers (numbers_in asker.1 (list_of radios)))) }
-    ensures { (acknowledgement : Bool) → Judges (contents head.now groups.now pairs.now)
-        (delete_step asker named.numbers remove deassign radios acknowledgement room) result }
+) -> Result<(), Refusal>
+    requires { asks.now ≡ asked asker groups asks.now.remove asks.now.deassign radios }
+    ensures { (acknowledgement : Bool) → Judges (contents_of lent.entry)
+        (delete_step asker groups asks.now.remove asks.now.deassign radios acknowledgement room) result }
 {
-    if !written(head, groups, pairs) {
-        return Reply::Refused(Refusal::NotWritten);
+    if !lent.written() {
+        return Err(Refusal::NotWritten);
     }
-    let fault = form_fault(asker, named, deassign, radios);
-    let Reply::Done = fault else {
-        return fault;
+    form_fault(asker, groups, asks.deassign, radios)?;
+    let pairs = Pairs {
+        rows: lent.pair_rows(),
     };
-    let group_count = head[GROUP_COUNT];
-    let pair_count = head[PAIR_COUNT];
-    stand_fault(
-        groups,
-        group_count as usize,
-        pairs,
-        pair_count as usize,
-        radio_key(asker),
-        these,
-        remove,
-        deassign,
-        radios.given,
-        those,
-        room,
-    )
+    stand_fault(lent.group_rows(), pairs, RadioKey::from(asker), asks, room)
 }
