@@ -6,7 +6,8 @@ use Prim.Native.Nat.{ℕ, ◌+◌, ◌≤◌, ◌<◌}
 use native.Mathlib.Numerals.{add-one}
 use native.Mathlib.Omega.{arith}
 use lib.Dec.{eqb, leb, ltb, leb-zero}
-use lib.ListN.{length, get_or}
+use lib.ListN.{length, get_or, drop, drop_of_length-le}
+use lib.Seq.{drop-cons}
 use borrow.Author.Tests.{eqb-true, eq-eqb, ne_eqb, ltb-true, lt-ltb, le-ltb}
 use Rattle.rules.specs.Lists.{all, mem, ahead, rises, Above, Rising}
 use Rattle.rules.specs.Mark.{Mark}
@@ -17,8 +18,6 @@ use Rattle.rules.specs.ByNumber.{lower, below_pair}
 use Rattle.rules.proofs.Tests.{split, clash, and_in, and_l, and_r, and-false, both_ways}
 use Rattle.rules.proofs.ListLaws.{eqb-flip}
 use Rattle.rules.proofs.ByNumber.{pair-cases}
-use Rattle.order.specs.Walks.{left}
-use Rattle.order.proofs.Walks.{left-cons, left_end}
 use Rattle.store.specs.Storage.{pair_of}
 use Rattle.store.specs.Form.{key_in, good_next, good_pairs}
 use Rattle.store.proofs.Tests.{all-carries, and-turn, narrow}
@@ -180,33 +179,36 @@ pairs-good (g ∷ gs) r l = level g gs r.0 0 l (pairs-good gs r.1) ∙ start l
 
 -- ---- its turns: what is left of the groups and of the pairs tells the whole ----
 
-module _ (groups pairs : List (List ℕ)) (n m group i least : ℕ) (w : Bool) (h : i < m) (q : m ≤ length pairs)
-    (e : good_pairs (map key_in (left group n groups)) least (map pair_of (left i m pairs)) ≡ w) where
-  -- no group is left
-  pub turn-out : n ≤ group → false ≡ w
-  turn-out p = rw (left_end groups n group p, left-cons pairs m i [] h q, pairs-out) at e
+drop-turn : (l : List (List ℕ)) (i : ℕ) → i < length l → drop i l ≡ get_or l i [] ∷ drop (i + 1) l
+drop-turn l i h = rw add-one (drop-cons l i [] h)
 
-  module _ (k : group < n) (p : n ≤ length groups) where
+module _ (groups pairs : List (List ℕ)) (group i least : ℕ) (w : Bool) (h : i < length pairs)
+    (e : good_pairs (map key_in (drop group groups)) least (map pair_of (drop i pairs)) ≡ w) where
+  -- no group is left
+  pub turn-out : length groups ≤ group → false ≡ w
+  turn-out p = rw (drop_of_length-le groups p, drop-turn pairs i h, pairs-out) at e
+
+  module _ (k : group < length groups) where
     -- the pair is of a later group
     pub turn-past : (key_in (get_or groups group []) ≡ (pair_of (get_or pairs i [])).0.0 → ⊥)
-        → good_pairs (map key_in (left (group + 1) n groups)) 0 (map pair_of (left i m pairs)) ≡ w
+        → good_pairs (map key_in (drop (group + 1) groups)) 0 (map pair_of (drop i pairs)) ≡ w
     turn-past d =
         let g = key_in (get_or groups group []) in
         let x = pair_of (get_or pairs i []) in
-        let rest = map pair_of (left (i + 1) m pairs) in
-        let s = left-cons pairs m i [] h q in
-        rw s (sym (pairs-past g (map key_in (left (group + 1) n groups)) least x rest (ne_eqb g x.0.0 d)) ∙ rw (left-cons groups n group [] k p, s) at e)
+        let rest = map pair_of (drop (i + 1) pairs) in
+        let s = drop-turn pairs i h in
+        rw s (sym (pairs-past g (map key_in (drop (group + 1) groups)) least x rest (ne_eqb g x.0.0 d)) ∙ rw (drop-turn groups group k, s) at e)
 
     -- the pair is of the group: it is good, and the walk goes on behind it, or it is not
     pub turn-next : key_in (get_or groups group []) ≡ (pair_of (get_or pairs i [])).0.0 → (ok : Bool) → ok ≡ good_next least (pair_of (get_or pairs i []))
-        → (not ok ≡ false → good_pairs (map key_in (left group n groups)) ((pair_of (get_or pairs i [])).0.1 + 1) (map pair_of (left (i + 1) m pairs)) ≡ w)
+        → (not ok ≡ false → good_pairs (map key_in (drop group groups)) ((pair_of (get_or pairs i [])).0.1 + 1) (map pair_of (drop (i + 1) pairs)) ≡ w)
         × (not ok ≡ true → false ≡ w)
     turn-next d ok f =
         let g = key_in (get_or groups group []) in
         let x = pair_of (get_or pairs i []) in
-        let rest = map pair_of (left (i + 1) m pairs) in
-        let gs = map key_in (left (group + 1) n groups) in
-        let c = left-cons groups n group [] k p in
+        let rest = map pair_of (drop (i + 1) pairs) in
+        let gs = map key_in (drop (group + 1) groups) in
+        let c = drop-turn groups group k in
         rw c (and-turn ok (good_pairs (g ∷ gs) (x.0.1 + 1) rest) w
         (ap (λ (z : Bool). z && good_pairs (g ∷ gs) (x.0.1 + 1) rest) f ∙ sym (pairs_next g gs least x rest (eq-eqb g x.0.0 d))
-        ∙ rw (c, left-cons pairs m i [] h q) at e))
+        ∙ rw (c, drop-turn pairs i h) at e))

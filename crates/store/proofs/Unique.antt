@@ -1,25 +1,16 @@
 -- Any two results that a function's contract allows are equal. `Post` is a contract's claim as the checker reads it.
 -- It makes none for a method of `Lent`: there two results beside which the contract's own clause holds are equal, in the program logic.
-use mathlib.Core.Path.{◌≡◌, sym, ◌∙◌}
-use seplogic.Ra.Ura.{Ura}
-use base.Logic.{SProp, ent, sep, fst∗, snd∗}
-use contract.Lifetimes.{Lfts}
-use contract.Monad.{Fun, fact, fact_i, fact_use}
-use denote.Triple.Clauses.{AtExit}
-use denote.Triple.Entry.{Args, Res}
-use types.Logic.{Logic}
-use prog.Memory.{Memory}
-use prog.Routine.{Routine}
+use mathlib.Core.Path.{sym, ◌∙◌}
 use denote.Param.Laws.{Laws, IsCopy}
 use denote.RattleType.{RattleType}
 use mir.Syntax.{Dict}
 use Rattle.std.specs.declared.clone.Clone as Clone
 use Rattle.store.specs.declared.places.Row as Row
 use Rattle.order.proofs.Unique.{Unique}
-use Rattle.store.specs.contracts.form.Lent.roomy as roomy
-use Rattle.store.specs.contracts.form.Lent.group_rows as group-rows
-use Rattle.store.specs.contracts.form.Lent.pair_rows as pair-rows
-use Rattle.store.specs.contracts.form.Lent.written as written
+use Rattle.store.proofs.form.Lent.roomy.Kinds as roomy-kinds
+use Rattle.store.proofs.form.Lent.roomy.Reads as roomy
+use Rattle.store.proofs.form.Lent.written.Kinds as written-kinds
+use Rattle.store.proofs.form.Lent.written.Reads as written
 use Rattle.store.proofs.places.stands.Kinds as stands-kinds
 use Rattle.store.proofs.places.stands.Reads as stands
 use Rattle.store.proofs.places.place.Kinds as place-kinds
@@ -90,27 +81,8 @@ any-group-unique κs a r r' s s' p q = p ∙ sym q
 pub timed-unique : Unique timed-kinds.ps timed-kinds.r timed.Post
 timed-unique κs a r r' s s' p q = p ∙ sym q
 
-module _ {M : Type 1} (𝓤 : Ura M) where
-  -- what follows of two facts
-  both : {P Q R : Type 0} → (P → Q → R) → ent 𝓤 (sep 𝓤 (fact 𝓤 P) (fact 𝓤 Q)) (fact 𝓤 R)
-  both {P} {Q} {R} f = fact_use 𝓤 P (fst∗ 𝓤 (fact 𝓤 P) (fact 𝓤 Q)) (λ p. fact_use 𝓤 Q (snd∗ 𝓤 (fact 𝓤 P) (fact 𝓤 Q)) (λ q. fact_i 𝓤 R _ (f p q)))
+pub roomy-unique : Unique roomy-kinds.ps roomy-kinds.r roomy.Post
+roomy-unique κs a r r' s s' p q = p ∙ sym q
 
-  module _ (𝓛 : Logic 𝓤) (mem : Memory → SProp 𝓤) (run : Routine → Fun 𝓤) (κs : Lfts 1) where
-    pub roomy-unique : (a : Args roomy.signature κs) (r r' : Res roomy.signature κs) (s s' : AtExit roomy.ended κs)
-        → ent 𝓤 (sep 𝓤 ((roomy.clauses 𝓛 mem run κs a).ensures tt r s) ((roomy.clauses 𝓛 mem run κs a).ensures tt r' s')) (fact 𝓤 (r ≡ r'))
-    roomy-unique a r r' s s' = both (λ p q. p ∙ sym q)
-
-    -- slices, by what they hold
-    pub group-rows-unique : (a : Args group-rows.signature κs) (r r' : Res group-rows.signature κs) (s s' : AtExit group-rows.ended κs)
-        → ent 𝓤 (sep 𝓤 ((group-rows.clauses 𝓛 mem run κs a).ensures tt r s) ((group-rows.clauses 𝓛 mem run κs a).ensures tt r' s'))
-        (fact 𝓤 (r.now ≡ r'.now))
-    group-rows-unique a r r' s s' = both (λ p q. p ∙ sym q)
-
-    pub pair-rows-unique : (a : Args pair-rows.signature κs) (r r' : Res pair-rows.signature κs) (s s' : AtExit pair-rows.ended κs)
-        → ent 𝓤 (sep 𝓤 ((pair-rows.clauses 𝓛 mem run κs a).ensures tt r s) ((pair-rows.clauses 𝓛 mem run κs a).ensures tt r' s'))
-        (fact 𝓤 (r.now ≡ r'.now))
-    pair-rows-unique a r r' s s' = both (λ p q. p ∙ sym q)
-
-    pub written-unique : (a : Args written.signature κs) (r r' : Res written.signature κs) (s s' : AtExit written.ended κs)
-        → ent 𝓤 (sep 𝓤 ((written.clauses 𝓛 mem run κs a).ensures tt r s) ((written.clauses 𝓛 mem run κs a).ensures tt r' s')) (fact 𝓤 (r ≡ r'))
-    written-unique a r r' s s' = both (λ p q. p.0 ∙ sym q.0)
+pub written-unique : Unique written-kinds.ps written-kinds.r written.Post
+written-unique κs a r r' s s' p q = p.0 ∙ sym q.0

@@ -1,13 +1,13 @@
 // The written form of the lent storage.
-ghost use Rattle.std.specs.Prelude.{◌≤◌, leb, length, get_or, take, true, ◌≡◌};
+ghost use Rattle.std.specs.Prelude.{◌≤◌, leb, map, length, get_or, take, true, ◌≡◌};
 ghost use Rattle.rules.specs.Lists.{any};
 ghost use Rattle.rules.specs.Mark.{timed};
 ghost use Rattle.rules.specs.Parameters.{bad_parameters};
 ghost use Rattle.rules.specs.Written.{max_owners, good_owners, good_mark};
 ghost use Rattle.rows.specs.Layout.{max_letters, name_length, owner_count};
-ghost use Rattle.store.specs.Form.{tidy, roomy, rising_keys, good_row, good_groups, good_next, keys_of, good_pairs, is_written, Sound};
+ghost use Rattle.store.specs.Form.{tidy, roomy, rising_keys, good_row, key_in, good_groups, good_next, good_pairs, is_written, Sound};
 ghost use Rattle.store.specs.Lists.{Plain};
-ghost use Rattle.store.specs.Storage.{placing, pair_of, pair_row, pairs_of, group_of, group_row, group_count, pair_count};
+ghost use Rattle.store.specs.Storage.{placing, pair_of, pair_row, group_of, group_row, group_count, pair_count};
 
 use rows::{
     BROADCAST_WORD, CALL_WORD, CLASS_WORD, FIRST_LETTER, FIRST_OWNER, GROUP_COUNT, GROUP_WORDS,
@@ -23,14 +23,7 @@ const KEY_LIMIT: u64 = 0x1_0000_0000_0000;
 fn large(list: &[u64], bound: u64) -> bool
     ensures { result ≡ any (leb bound) list.now }
 {
-    let mut i: usize = 0;
-    while i < list.len() {
-        if bound <= list[i] {
-            return true;
-        }
-        i += 1;
-    }
-    false
+    list.iter().any(|&word| bound <= word)
 }
 
 // Whether the keys of a list rise, and are in range.
@@ -38,11 +31,8 @@ fn rising_keys(list: &[u64]) -> bool
     ensures { result ≡ rising_keys 0 list.now }
 {
     let mut least: u64 = 0;
-    let mut i: usize = 0;
-    while i < list.len() {
-        let key = list[i];
-        i += 1;
-        let fine = (least <= key) & !(KEY_LIMIT <= key);
+    for &key in list {
+        let fine = least <= key && key < KEY_LIMIT;
         if !fine {
             return false;
         }
@@ -59,11 +49,12 @@ fn bad_parameters(row: &[u64; GROUP_WORDS]) -> bool
     let words = &row[..];
     let end = FIRST_LETTER + row[NAME_LENGTH] as usize;
     (8 < row[REFERENCE_WORD])
-        | ((2 < row[CALL_WORD])
-            | ((2 < row[BROADCAST_WORD])
-                | (large(&words[FIRST_LETTER..end], 256)
-                    | ((8 < row[CLASS_WORD])
-                        | ((4 < row[LIFETIME_WORD]) | ((8 < row[TEMPORARY_WORD]) | false))))))
+        | (2 < row[CALL_WORD])
+        | (2 < row[BROADCAST_WORD])
+        | large(&words[FIRST_LETTER..end], 256)
+        | (8 < row[CLASS_WORD])
+        | (4 < row[LIFETIME_WORD])
+        | (8 < row[TEMPORARY_WORD])
 }
 
 // Whether a group has owners, within their room, in range and rising.
@@ -74,7 +65,7 @@ fn good_owners(row: &[u64; GROUP_WORDS]) -> bool
     let words = &row[..];
     let count = row[OWNER_COUNT];
     let end = FIRST_OWNER + count as usize;
-    (0 < count) & ((count <= MAX_OWNERS as u64) & rising_keys(&words[FIRST_OWNER..end]))
+    (0 < count) & rising_keys(&words[FIRST_OWNER..end])
 }
 
 // Whether the words past the counts are 0; it is then the row of its group.
@@ -92,29 +83,24 @@ fn blank_ends(row: &[u64; GROUP_WORDS]) -> bool
 fn group_ok(row: &[u64; GROUP_WORDS]) -> bool
     ensures { (result ≡ good_row row.now) × (result ≡ true → group_row (group_of row.now) ≡ row.now) }
 {
-    let counted = (row[NAME_LENGTH] <= MAX_LETTERS as u64)
-        & (row[OWNER_COUNT] <= MAX_OWNERS as u64);
+    let counted = row[NAME_LENGTH] <= MAX_LETTERS as u64 && row[OWNER_COUNT] <= MAX_OWNERS as u64;
     if !counted {
         return false;
     }
-    blank_ends(row) & (!(KEY_LIMIT <= row[KEY_WORD]) & (good_owners(row) & !bad_parameters(row)))
+    blank_ends(row) & !(KEY_LIMIT <= row[KEY_WORD]) & good_owners(row) & !bad_parameters(row)
 }
 
 // Whether every group is in its form, and they rise.
-fn groups_ok(groups: &[[u64; GROUP_WORDS]], count: usize) -> bool
-    requires { count ≤ length groups.now }
-    ensures { (result ≡ good_groups 0 (take count groups.now)) × (result ≡ true → Plain group_of group_row count groups.now) }
+fn groups_ok(groups: &[[u64; GROUP_WORDS]]) -> bool
+    ensures { (result ≡ good_groups 0 groups.now) × (result ≡ true → Plain group_of group_row (length groups.now) groups.now) }
 {
     let mut least: u64 = 0;
-    let mut i: usize = 0;
-    while i < count {
-        let key = groups[i][KEY_WORD];
-        let fine = (least <= key) & group_ok(&groups[i]);
-        i += 1;
+    for row in groups {
+        let fine = least <= row[KEY_WORD] && group_ok(row);
         if !fine {
             return false;
         }
-        least = key + 1;
+        least = row[KEY_WORD] + 1;
     }
     true
 }
@@ -123,7 +109,7 @@ fn groups_ok(groups: &[[u64; GROUP_WORDS]], count: usize) -> bool
 pub fn timed(state: u64) -> bool
     ensures { result ≡ timed state }
 {
-    (state == WAITING) | (state == LEAVING)
+    state == WAITING || state == LEAVING
 }
 
 // Whether a mark is in its range.
@@ -133,32 +119,27 @@ fn mark_ok(row: [u64; PAIR_WORDS]) -> bool
     if timed(row[PAIR_STATE]) {
         return row[PAIR_TICKS] < T1;
     }
-    (row[PAIR_STATE] <= LEAVING_UNHEARD) & (row[PAIR_TICKS] == 0)
+    row[PAIR_STATE] <= LEAVING_UNHEARD && row[PAIR_TICKS] == 0
 }
 
 // Whether a pair of the group at hand is in its form, its radio none below `least`; its row is the row of the pair.
 fn pair_ok(row: [u64; PAIR_WORDS], least: u64) -> bool
     ensures { (result ≡ good_next least (pair_of row)) × (pair_row (pair_of row) ≡ row) }
 {
-    (least <= row[PAIR_RADIO]) & (!(KEY_LIMIT <= row[PAIR_RADIO]) & mark_ok(row))
+    least <= row[PAIR_RADIO] && row[PAIR_RADIO] < KEY_LIMIT && mark_ok(row)
 }
 
 // Whether every pair is in its form and stands in its group's stretch, the stretches as the groups: a turn goes on by a pair or by a group.
-fn pairs_ok(
-    groups: &[[u64; GROUP_WORDS]],
-    group_count: usize,
-    pairs: &[[u64; PAIR_WORDS]],
-    count: usize,
-) -> bool
-    requires { (group_count ≤ length groups.now) × (count ≤ length pairs.now) }
-    ensures { (result ≡ good_pairs (keys_of group_count groups.now) 0 (pairs_of count pairs.now))
-        × (result ≡ true → Plain pair_of pair_row count pairs.now) }
+fn pairs_ok(groups: &[[u64; GROUP_WORDS]], pairs: &[[u64; PAIR_WORDS]]) -> bool
+    ensures { (result ≡ good_pairs (map key_in groups.now) 0 (map pair_of pairs.now))
+        × (result ≡ true → Plain pair_of pair_row (length pairs.now) pairs.now) }
 {
     let mut group: usize = 0;
     let mut least: u64 = 0;
     let mut i: usize = 0;
-    while i < count {
-        if group == group_count {
+    // Stays: a turn goes on by a pair or by a group, so no iterator over one of them counts the turns.
+    while i < pairs.len() {
+        if group == groups.len() {
             return false;
         }
         let row = pairs[i];
@@ -208,6 +189,7 @@ impl<'a> Lent<'a> {
     }
 
     // The rows of the groups in use.
+    // Stays beside pair_rows: another field, of rows of another size; what is alike is `used`.
     pub fn group_rows(self) -> &'a [[u64; GROUP_WORDS]]
         ensures { result.now ≡ take (group_count (contents_of self.entry)) self.entry.groups.now }
     {
@@ -229,20 +211,12 @@ impl<'a> Lent<'a> {
         if !self.roomy() {
             return false;
         }
-        let group_count = self.head[GROUP_COUNT];
-        let pair_count = self.head[PAIR_COUNT];
-        let within = (group_count <= MAX_GROUPS as u64) & (pair_count <= MAX_PAIRS as u64);
+        let within = (self.head[GROUP_COUNT] <= MAX_GROUPS as u64)
+            & (self.head[PAIR_COUNT] <= MAX_PAIRS as u64);
         if !within {
             return false;
         }
-        if !groups_ok(self.groups, group_count as usize) {
-            return false;
-        }
-        pairs_ok(
-            self.groups,
-            group_count as usize,
-            self.pairs,
-            pair_count as usize,
-        )
+        let groups = self.group_rows();
+        groups_ok(groups) && pairs_ok(groups, self.pair_rows())
     }
 }

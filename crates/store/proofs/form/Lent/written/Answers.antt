@@ -1,10 +1,9 @@
--- `store::form::Lent::written` meets its contract.
-use mathlib.Core.Path.{◌≡◌, sym, ap, ◌∙◌}
-use mathlib.Core.Bool.{Bool, true, ◌&&◌, false≢true}
-use Rattle.store.specs.Storage.{group_count, pair_count, pairs_of}
+-- `store::form::Lent::written` meets its contract: where there is room and the counts are within it, the form is what the walks say.
+use mathlib.Core.Path.{◌≡◌, sym, ◌∙◌}
+use mathlib.Core.Bool.{true, false≢true}
 use Rattle.store.specs.Lent.{contents_of}
-use Rattle.store.specs.Form.{roomy, within, is_written, keys_of, good_pairs}
-use Rattle.store.proofs.FormLaws.{room_of, counts_of, form-walks, form-cut, form-over, sound}
+use Rattle.store.specs.Form.{roomy}
+use Rattle.store.proofs.FormLaws.{form-cut, form-over, walk-refuses, walks-tell}
 use Rattle.store.proofs.form.Lent.written.Goals as goal
 
 pub returns-then-not-roomy : goal.returns-then-not-roomy
@@ -12,36 +11,23 @@ returns-then-not-roomy c =
     let x = contents_of c.args.self in
     (sym (form-cut x (sym c.roomy.ensures ∙ c.if-not-roomy.true)), λ e. absurd (false≢true e))
 
--- past the first test there is room
 pub returns-then-not-within : goal.returns-then-not-within
 returns-then-not-within c =
     let x = contents_of c.args.self in
     let r : roomy x ≡ true = sym c.roomy.ensures ∙ c.if-not-roomy.false in
     (sym (form-over x r c.if-not-within.true), λ e. absurd (false≢true e))
 
--- past the second test the counts are within the room: there the form is what the walks say
-pub returns-then-not-groups_ok : goal.returns-then-not-groups_ok
-returns-then-not-groups_ok c =
+pub returns-then-groups_ok : goal.returns-then-groups_ok
+returns-then-groups_ok c =
     let x = contents_of c.args.self in
     let r : roomy x ≡ true = sym c.roomy.ensures ∙ c.if-not-roomy.false in
-    let w : within x ≡ true = c.if-not-within.false in
-    let walks : is_written x ≡ (c.groups_ok.result && good_pairs (keys_of (group_count x) x.groups) 0 (pairs_of (pair_count x) x.pairs)) =
-    form-walks x r w
-    ∙ ap (λ (z : Bool). z && good_pairs (keys_of (group_count x) x.groups) 0 (pairs_of (pair_count x) x.pairs)) (sym c.groups_ok.ensures.0) in
-    (rw c.if-not-groups_ok.true at (sym walks), λ e. absurd (false≢true e))
+    walks-tell x r c.if-not-within.false c.group_rows-groups.result.now c.group_rows-groups.ensures c.pair_rows.result.now c.pair_rows.ensures
+    c.if-groups_ok.ensures c.pairs_ok.result c.pairs_ok.ensures
 
-pub returns : goal.returns
-returns c =
+pub returns-else-groups_ok : goal.returns-else-groups_ok
+returns-else-groups_ok c =
     let x = contents_of c.args.self in
     let r : roomy x ≡ true = sym c.roomy.ensures ∙ c.if-not-roomy.false in
-    let w : within x ≡ true = c.if-not-within.false in
-    let walks : is_written x ≡ (c.groups_ok.result && good_pairs (keys_of (group_count x) x.groups) 0 (pairs_of (pair_count x) x.pairs)) =
-    form-walks x r w
-    ∙ ap (λ (z : Bool). z && good_pairs (keys_of (group_count x) x.groups) 0 (pairs_of (pair_count x) x.pairs)) (sym c.groups_ok.ensures.0) in
-    let g = c.if-not-groups_ok.false in
-    let f : is_written x ≡ c.pairs_ok.result = rw (g, ← c.pairs_ok.ensures.0) at walks in (
-      sym f,
-      λ e. sound x (f ∙ e) (room_of x r) (counts_of x w)
-          (c.groups_ok.ensures.1 g)
-          (c.pairs_ok.ensures.1 e),
-    )
+    let f = walk-refuses x r c.if-not-within.false c.group_rows-groups.result.now c.group_rows-groups.ensures c.groups_ok.result c.groups_ok.ensures.0
+    c.if-groups_ok.false in
+    (c.if-groups_ok.false ∙ f, λ e. absurd (false≢true (sym c.if-groups_ok.false ∙ e)))
