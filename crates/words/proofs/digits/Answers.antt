@@ -1,20 +1,18 @@
 -- `words::digits` meets its contract: each turn is a law of `Values`.
 use mathlib.Core.Path.{sym, ◌∙◌}
 use native.Mathlib.Omega.{arith}
-use Rattle.words.proofs.Values.{read_none, read-start, read_more}
+use Rattle.words.proofs.Values.{read-start, read-bad, read_more}
 use Rattle.words.proofs.digits.Goals as goal
 
-pub returns-then-not-enough : goal.returns-then-not-enough
-returns-then-not-enough c =
+pub loop-character-init : goal.loop-character-init
+loop-character-init c =
     let a = c.args in
-    let e = c.enough in
-    c.bad_word.ensures ∙ read_none a.line.now a.at a.width (sym e.ensures ∙ c.if-not-enough.true)
+    let rest = c.in_ok-get.ensures.lookup.0 in
+    let text = c.in_ok-character-items.ensures.lookup.0 in
+    read-start a.line.now a.at a.width _ _ c.if-width-gt-DIGITS.false rest.2 text.1 rest.3 text.2
 
-pub loop-i-init : goal.loop-i-init
-loop-i-init c =
-    let a = c.args in
-    let e = c.enough in
-    read-start a.line.now a.at a.width (sym e.ensures ∙ c.if-not-enough.false)
+pub returns-in_err-value : goal.returns-in_err-value
+returns-in_err-value c = c.from_residual-in_err-value.ensures ∙ read-bad c.loop-character.invariant c.loop-character-test.true c.in_err-value.ensures
 
-pub loop-i-preserved : goal.loop-i-preserved
-loop-i-preserved c = read_more c.loop-i.invariant (omega arith) c.digit_value-digit.ensures c.if-digit-ge-NO_DIGIT.false
+pub loop-character-preserved : goal.loop-character-preserved
+loop-character-preserved c = read_more c.loop-character.invariant c.loop-character-test.true c.in_ok-value.ensures

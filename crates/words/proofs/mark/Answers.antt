@@ -1,7 +1,6 @@
 -- `words::mark` meets its contract: where the character stands there is a place behind it.
 use mathlib.Core.Path.{sym, ◌∙◌}
 use native.Mathlib.Omega.{arith}
-use Rattle.words.specs.Words.{mark_at}
 use Rattle.words.proofs.Words.{stands-within}
 use Rattle.words.proofs.mark.Goals as goal
 
@@ -9,11 +8,3 @@ pub overflow_add-result : goal.overflow_add-result
 overflow_add-result c =
     let a = c.args in
     omega (arith, stands-within a.line.now a.at a.character (sym c.stands.ensures ∙ c.if-stands.true))
-
-pub returns-then-stands : goal.returns-then-stands
-unfolding mark_at
-returns-then-stands c = rw (← c.stands.ensures, c.if-stands.true)
-
-pub returns : goal.returns
-unfolding mark_at
-returns c = rw (← c.stands.ensures, c.if-stands.false)

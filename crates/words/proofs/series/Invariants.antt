@@ -1,10 +1,6 @@
 -- `words::series` meets its contract: each turn is a law of `Lists`.
-use Prim.Native.Nat.{◌-◌}
 use Rattle.words.proofs.Lists.{Listing}
 use Rattle.words.proofs.series.Given as goal
 
 abbrev pub invariant-loop-i : goal.invariant-loop-i
 invariant-loop-i l = Listing l.line l.at l.code.value l.identity l.i l.next
-
-abbrev pub decreases-loop-i : goal.decreases-loop-i
-decreases-loop-i l = 10 - l.i
