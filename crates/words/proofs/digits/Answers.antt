@@ -1,6 +1,5 @@
 -- `words::digits` meets its contract: each turn is a law of `Values`.
-use mathlib.Core.Path.{sym, ◌∙◌}
-use native.Mathlib.Omega.{arith}
+use mathlib.Core.Path.{◌∙◌}
 use Rattle.words.proofs.Values.{read-start, read-bad, read_more}
 use Rattle.words.proofs.digits.Goals as goal
 
