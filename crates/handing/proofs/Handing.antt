@@ -1,6 +1,6 @@
 -- Laws of a handover: its tests are the law's, and the row that it sets leaves what the law leaves.
 use mathlib.Core.Path.{◌≡◌, refl, sym, ap, ◌∙◌}
-use mathlib.Core.Bool.{Bool, false, true}
+use mathlib.Core.Bool.{Bool, false}
 use mathlib.Core.List.{List, [], ◌∷◌, ◌++◌, map}
 use mathlib.Core.Option.{Option, none, some}
 use Prim.Native.Nat.{ℕ, ◌+◌, ◌≤◌}
@@ -9,6 +9,7 @@ use borrow.Author.Tests.{ltb-false}
 use lib.Dec.{eqb, ltb}
 use lib.ListN.{length, get_or, take, drop, set, replicate}
 use lib.Seq.{set-get_or}
+use Rattle.std.specs.Prelude.{Result, Ok, Err}
 use Rattle.refusal.specs.declared.Refusal.{Refusal}
 use Rattle.rules.specs.Lists.{rising, once}
 use Rattle.rules.specs.Entries.{find}
@@ -33,31 +34,28 @@ use Rattle.rules.proofs.Steps.{step-lists}
 use Rattle.rules.proofs.LawOrder.{tests-pass}
 use Rattle.rows.specs.Layout.{group_words}
 use Rattle.order.specs.Numbers.{radio_number}
-use Rattle.order.specs.Keys.{fitting, owners_as, owners_held}
+use Rattle.order.specs.Keys.{fitting, keys_as, keys_held}
 use Rattle.order.specs.Lists.{identity_of, numbers_of}
 use Rattle.order.specs.Steps.{handover_step}
 use Rattle.order.specs.Walks.{onto}
 use Rattle.order.specs.declared.Identity.{Identity}
 use Rattle.order.specs.declared.Itsi.{Itsi}
-use Rattle.order.specs.declared.Listed.{Listed}
 use Rattle.order.specs.declared.Numbers.{Numbers}
-use Rattle.order.specs.declared.Owners.{Owners}
-use Rattle.order.proofs.KeyLaws.{owners-held}
+use Rattle.order.specs.declared.RadioKey.{RadioKey}
+use Rattle.order.specs.declared.keys.Keys.{Keys}
+use Rattle.order.proofs.KeyLaws.{keys-held}
 use Rattle.order.proofs.RangeLaws.{passed-whole}
 use Rattle.store.specs.Places.{looked_up, place_of}
 use Rattle.store.specs.Named.{owned_as}
-use Rattle.store.specs.Storage.{Contents, contents, group_of, group_row, pair_row, group_count, pair_count, placing, ledger_of, laid}
+use Rattle.store.specs.Storage.{Rows, Contents, contents, group_of, group_row, pair_row, group_count, pair_count, placing, ledger_of, laid}
 use Rattle.store.specs.Form.{Sound}
 use Rattle.store.specs.declared.Owned.{Owned}
-use Rattle.store.specs.declared.Place.{Place}
-use Rattle.store.specs.declared.Place.TheVariants.{At, Free}
 use Rattle.store.proofs.FormLaws.{groups-rise, pairs-rise}
 use Rattle.store.proofs.PlaceLaws.{InRows, in_rows}
 use Rattle.store.proofs.Parting.{Parted, parted}
 use Rattle.store.proofs.OneRow.{row-replaced}
-use Rattle.replies.specs.Orders.{reply_of, verdict}
-use Rattle.replies.specs.declared.Reply.TheVariants.{Done, Refused}
-use Rattle.replies.proofs.Orders.{form-refuses, stand-tells, head-counts, count-pairs, pairs-stay}
+use Rattle.replies.specs.Orders.{reply_of, Judges}
+use Rattle.replies.proofs.Orders.{not_done, form-refuses, stand-tells, head-counts, count-pairs, pairs-stay}
 use Rattle.replies.proofs.Owned.{owned_reply, owned_tests, owned-replies}
 use Rattle.making.specs.Row.{made_row}
 use Rattle.making.proofs.Making.{blank-row, made-is}
@@ -70,10 +68,9 @@ group_named asker group = identity_key asker.1 (identity_of group)
 
 -- ---- the tests ----
 
--- the owners are a list that is given
-module _ (c : Contents) (w : Sound c) (asker : Itsi) (group : Identity) (owners : Listed) (given : owners.given ≡ true) where
+module _ (c : Contents) (w : Sound c) (asker : Itsi) (group : Identity) (owners : Numbers) where
   abbrev pub step : Step
-  step = handover_step asker group owners.numbers
+  step = handover_step asker group owners
 
   abbrev pub forms : List (Refusal × Bool)
   forms = form_tests asker group owners
@@ -83,32 +80,37 @@ module _ (c : Contents) (w : Sound c) (asker : Itsi) (group : Identity) (owners 
 
   -- they are those of form, then 12 and 13
   handover-tests : tests (view (ledger_of c)) (tally placing (ledger_of c) (effect (view (ledger_of c)) step)) step ≡ forms ++ stands
-  handover-tests = rw given
+  handover-tests = refl
 
-  pub form-refused : (r : Refusal) → Refused r ≡ reply_of (first forms) → Refused r ≡ reply_of (verdict c step)
-  form-refused = form-refuses c w step forms stands handover-tests
+  pub form-refused : (r : Refusal) → Err r ≡ reply_of (first forms) → Judges c step (Err r)
+  form-refused r e = record { judges = form-refuses c w step forms stands handover-tests r e; sound = not_done r }
 
-  pub owned-replied : (g a : ℕ) → g ≡ group_named asker group → a ≡ key (radio_number asker) → Done ≡ reply_of (first forms)
-      → (o x : Owned) → x ≡ o → x ≡ owned_as (looked_up ltb eqb (ledger_of c).groups g) a → owned_reply o ≡ reply_of (verdict c step)
-  owned-replied g a p q f o x d e = rw (p, q) at (owned-replies c w g a o (sym d ∙ e)) ∙ stand-tells c w step forms stands handover-tests f
+  -- past them the order is judged by whose the group is
+  pub owned-judged : Ok tt ≡ reply_of (first forms) → (rows : Rows) (g a : ℕ) → rows ≡ take (group_count c) c.groups → g ≡ group_named asker group
+      → a ≡ key (radio_number asker) → (x : Owned) → x ≡ owned_as (looked_up ltb eqb (map group_of rows) g) a → (o : Owned) → x ≡ o
+      → Judges c step (owned_reply o)
+  owned-judged f rows g a l p q x e o d = record {
+    judges = rw (p, q) at (owned-replies c w g a o (sym d ∙ rw l at e)) ∙ stand-tells c w step forms stands handover-tests f;
+    sound = λ k. w;
+  }
 
 -- ---- what is left ----
 
 module _ (c : Contents) (w : Sound c) where
   -- what the place of a group says of the rows
-  pub group-in-rows : (p : Place) (g : ℕ) → p ≡ place_of ltb eqb (ledger_of c).groups g
+  pub group-in-rows : (p : Result ℕ ℕ) (g : ℕ) → p ≡ place_of ltb eqb (ledger_of c).groups g
       → InRows numbers-linear group_of c.groups (group_count c) (omega (arith, w.groups, w.few_groups)) (groups-rise c w) p g
   group-in-rows = in_rows numbers-linear group_of c.groups (group_count c) (omega (arith, w.groups, w.few_groups)) (groups-rise c w)
 
   -- a handover of a group that is not there is refused
   pub no-group-refused : {P : Type 0} (asker : Itsi) (group : Identity) (owners : Numbers) (i : ℕ)
-      → Free i ≡ place_of ltb eqb (ledger_of c).groups (group_named asker group)
+      → Err i ≡ place_of ltb eqb (ledger_of c).groups (group_named asker group)
       → refused placing (ledger_of c) (handover_step asker group owners) ≡ none → P
   no-group-refused asker group owners i e t =
       let s = handover_step asker group owners in
       let v = view (ledger_of c) in
       let q = tests-pass (tests v (tally placing (ledger_of c) (effect v s)) s) t 4 in
-      let f = (group-in-rows (Free i) (group_named asker group) e).found in
+      let f = (group-in-rows (Err i) (group_named asker group) e).found in
       clash (rw f at q)
 
   module _ (asker : Itsi) (group : Identity) (owners : Numbers) (taken : refused placing (ledger_of c) (handover_step asker group owners) ≡ none) where
@@ -130,12 +132,12 @@ module _ (c : Contents) (w : Sound c) where
         tests-pass (tests v (tally placing (ledger_of c) (effect v s)) s) taken 3
 
     -- so the owners that are made of the order are all of them, and have room in a row
-    pub owners-set : (o : Owners) → o ≡ owners_as (rising (key (radio_number asker) ∷ fitting max_listed_owners (numbers_in asker.1 (some (numbers_of owners)))))
-        → owners_held o ≡ rising owners_named
+    pub owners-set : (o : Keys RadioKey max_owners) → o ≡ keys_as (rising (key (radio_number asker) ∷ fitting max_listed_owners (numbers_in asker.1 (some (numbers_of owners)))))
+        → keys_held o ≡ rising owners_named
     owners-set o e =
         let a = key (radio_number asker) in
-        ap owners_held e
-        ∙ owners-held (rising (a ∷ fitting max_listed_owners listed))
+        ap keys_held e
+        ∙ keys-held max_owners (rising (a ∷ fitting max_listed_owners listed))
         ∙ ap (λ (l : List ℕ). rising (a ∷ l)) (passed-whole max_listed_owners asker.1 (some (numbers_of owners)) few-listed)
         ∙ sym (rising-once (a ∷ listed))
 
@@ -148,7 +150,7 @@ module _ (c : Contents) (w : Sound c) where
     abbrev then : Option Group → Group
     then = group_after placing (owner.set owners_named) no_parameters
 
-    module _ (i : ℕ) (at : At i ≡ place_of ltb eqb (ledger_of c).groups (group_named asker group)) where
+    module _ (i : ℕ) (at : Ok i ≡ place_of ltb eqb (ledger_of c).groups (group_named asker group)) where
       abbrev after : ℕ × Group
       after = (named, then (find eqb (ledger_of c).groups named))
 
@@ -156,7 +158,7 @@ module _ (c : Contents) (w : Sound c) where
       row-handed : made_row named (replicate group_words 0) (get_or c.groups i []) (rising owners_named) ≡ group_row after
       row-handed =
           let old = group_of (get_or c.groups i []) in
-          let r = group-in-rows (At i) named at in
+          let r = group-in-rows (Ok i) named at in
           (λ j. made_row named (blank-row j) (sym (w.group_rows i r.inside) j) (rising owners_named))
           ∙ made-is named old.0 no_parameters old.1 (rising owners_named) refl (fine-found c w named old.1 r.found) few-named
           ∙ ap (λ (x : Option Group). group_row (named, then x)) (sym r.found)
@@ -166,7 +168,7 @@ module _ (c : Contents) (w : Sound c) where
       groups-handed =
           let l = (ledger_of c).groups in
           let then_found : ℕ → Group = λ g. then (find eqb l g) in
-          let p : Parted numbers-linear named l (At i) = rw at (parted numbers-linear named l (groups-rise c w)) in
+          let p : Parted numbers-linear named l (Ok i) = rw at (parted numbers-linear named l (groups-rise c w)) in
           sym (ap (λ (z : List (ℕ × Group)). puts (by_key ltb) z (named ∷ []) then_found) p.parts
           ∙ puts-last numbers-linear then_found [] named (find eqb l named) (take i l) (drop (i + 1) l) tt p.low p.high)
 
@@ -177,7 +179,7 @@ module _ (c : Contents) (w : Sound c) where
           let l = ledger_of c in
           let lists = step-lists placing by_number_lem l (record { groups = groups-rise c w; pairs = pairs-rise c w }) (named ∷ []) (owner.set owners_named)
           no_parameters [] (fresh none_wanted) in
-          let f = row-replaced group_of group_row c.groups (group_count c) i (group-in-rows (At i) named at).inside
+          let f = row-replaced group_of group_row c.groups (group_count c) i (group-in-rows (Ok i) named at).inside
           (omega (arith, w.groups, w.few_groups)) w.group_rows after in
           let g = groups-handed ∙ ap (λ (x : Ledger). x.groups) (sym lists) in
           let p = ap (λ (x : Ledger). x.pairs) (sym lists) in

@@ -10,11 +10,11 @@ ghost use Rattle.replies.specs.Orders.{Replies};
 use crate::refusing::handover_fault;
 use making::made_row;
 use order::keys::{group_in, owners_in};
-use order::{Identity, Itsi, Listed, Numbers};
-use replies::Reply;
-use rows::{GROUP_COUNT, GROUP_WORDS, PAIR_WORDS};
-use store::Place;
-use store::places::group_place;
+use order::{Identity, Itsi, Numbers};
+use refusal::Refusal;
+use rows::{GROUP_WORDS, PAIR_WORDS};
+use store::form::Lent;
+use store::places::place;
 
 // A handover: the owners of a group become the asker and those listed; its parameters and its pairs stay.
 pub fn handover(
@@ -24,25 +24,22 @@ pub fn handover(
     asker: Itsi,
     group: Identity,
     owners: Numbers,
-) -> Reply
+) -> Result<(), Refusal>
     ensures { Replies (handover_step asker group owners) (contents head.now groups.old pairs.now)
         (contents head.now groups.new pairs.now) result }
 {
-    let list = Listed {
-        given: true,
-        numbers: owners,
+    let lent = Lent {
+        head,
+        groups,
+        pairs,
     };
-    let fault = handover_fault(head, groups, pairs, asker, group, list);
-    let Reply::Done = fault else {
-        return fault;
-    };
-    let count = head[GROUP_COUNT];
+    handover_fault(lent, asker, group, owners)?;
     let key = group_in(asker, group);
-    let Place::At(i) = group_place(groups, count as usize, key) else {
-        return fault;
+    let Ok(at) = place(lent.group_rows(), key) else {
+        unreachable!()
     };
-    let old = groups[i];
-    let row = made_row(key, [0; GROUP_WORDS], old, owners_in(asker, list));
-    groups[i] = row;
-    Reply::Done
+    let owners = owners_in(asker, Some(owners));
+    let old = groups[at];
+    groups[at] = made_row(key, [0; GROUP_WORDS], old, &owners);
+    Ok(())
 }

@@ -1,72 +1,61 @@
 // What a handover is refused with: each rule over the whole order, in the order of the law.
-ghost use Rattle.std.specs.Prelude.{true, ◌≡◌};
+ghost use Rattle.std.specs.Prelude.{◌≡◌};
 ghost use Rattle.rules.specs.Refusals.{first};
 ghost use Rattle.order.specs.Steps.{handover_step};
-ghost use Rattle.store.specs.Storage.{contents};
+ghost use Rattle.store.specs.Lent.{contents_of};
 ghost use Rattle.replies.specs.Orders.{reply_of, Judges};
 ghost use Rattle.handing.specs.Tests.{form_tests};
 
-use order::keys::{group_in, radio_key};
+use order::keys::group_in;
 use order::lists::{bad_identity, bad_list, short, untaken, wide_radio};
 use order::ranges::{bad_range, too_many_owners};
-use order::{Identity, Itsi, Listed};
+use order::{Identity, Itsi, Numbers, RadioKey};
 use refusal::Refusal;
-use replies::Reply;
-use rows::{GROUP_COUNT, GROUP_WORDS, PAIR_WORDS};
 use store::Owned;
-use store::form::written;
+use store::form::Lent;
 use store::named::owned_by;
 
 // What a handover is refused with for its form.
-fn form_fault(asker: Itsi, group: Identity, owners: Listed) -> Reply
+// Stays: asker, group and owners apart, as a handover brings them (handover-unique); a struct of them would be taken apart at once.
+fn form_fault(asker: Itsi, group: Identity, owners: Numbers) -> Result<(), Refusal>
     ensures { result ≡ reply_of (first (form_tests asker group owners)) }
 {
-    let bad = wide_radio(asker) | (bad_identity(group) | bad_list(owners));
-    if bad {
-        return Reply::Refused(Refusal::BadOrder);
+    let owners = Some(owners);
+    if wide_radio(asker) || bad_identity(group) || bad_list(owners) {
+        return Err(Refusal::BadOrder);
     }
-    let other = short(group) | untaken(owners);
-    if other {
-        return Reply::Refused(Refusal::FormNotTaken);
+    if short(group) || untaken(owners) {
+        return Err(Refusal::FormNotTaken);
     }
     if bad_range(asker, owners) {
-        return Reply::Refused(Refusal::BadRange);
+        return Err(Refusal::BadRange);
     }
     if too_many_owners(asker, owners) {
-        return Reply::Refused(Refusal::TooManyNumbers);
+        return Err(Refusal::TooManyNumbers);
     }
-    Reply::Done
+    Ok(())
 }
 
 // What a handover is refused with.
 pub fn handover_fault(
-    head: &[u64],
-    groups: &[[u64; GROUP_WORDS]],
-    pairs: &[[u64; PAIR_WORDS]],
+    lent: Lent<'_>,
     asker: Itsi,
     group: Identity,
-    owners: Listed,
-) -> Reply
-    requires { owners.given ≡ true }
-    ensures { Judges (contents head.now groups.now pairs.now)
-        (handover_step asker group owners.numbers) result }
+    owners: Numbers,
+) -> Result<(), Refusal>
+    ensures { Judges (contents_of lent.entry) (handover_step asker group owners) result }
 {
-    if !written(head, groups, pairs) {
-        return Reply::Refused(Refusal::NotWritten);
+    if !lent.written() {
+        return Err(Refusal::NotWritten);
     }
-    let fault = form_fault(asker, group, owners);
-    let Reply::Done = fault else {
-        return fault;
-    };
-    let count = head[GROUP_COUNT];
+    form_fault(asker, group, owners)?;
     match owned_by(
-        groups,
-        count as usize,
+        lent.group_rows(),
         group_in(asker, group),
-        radio_key(asker),
+        RadioKey::from(asker),
     ) {
-        Owned::Absent => Reply::Refused(Refusal::NoSuchGroup),
-        Owned::Own => Reply::Done,
-        Owned::Other => Reply::Refused(Refusal::NotOwner),
+        Owned::Absent => Err(Refusal::NoSuchGroup),
+        Owned::Own => Ok(()),
+        Owned::Other => Err(Refusal::NotOwner),
     }
 }
