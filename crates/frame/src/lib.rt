@@ -21,6 +21,7 @@ pub fn blank() -> Record
 }
 
 // Reads a frame of `bits` bits: the record, or the refusal with the bit at which the refused element begins.
+// Stays: a bit count beside the bytes, since a frame may end inside a byte; reading_of speaks of bytes that are too few, too.
 pub fn read(kind: Kind, frame: &[u8], bits: usize) -> Result<Record, Refused>
     ensures { result ≡ reading_of kind frame.now bits }
 {

@@ -76,6 +76,7 @@ impl<'a> Frame<'a> {
     }
 
     // An item that is there.
+    // Stays: what a list is of stands in its table's line as a value, so the choice falls where an item is read.
     fn item(self, at: usize, into: &mut Filling, items: Items) -> Result<usize, Refused>
         requires { into.old.place + stride items ≤ PLACES }
         ensures { Fills (item items [] into.old.place) (bits_in self.entry) at into.old into.new result }

@@ -14,6 +14,7 @@ use parts::{Frame, refused};
 use refusal::Refusal;
 
 // A frame of `bits` bits in lent bytes.
+// Stays: a bit count beside the bytes, since a frame may end inside a byte; reading_of speaks of bytes that are too few, too.
 pub fn read_frame(kind: Kind, frame: &[u8], bits: usize) -> Result<Record, Refused>
     ensures { result ≡ reading_of kind frame.now bits }
 {
