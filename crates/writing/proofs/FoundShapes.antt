@@ -1,5 +1,6 @@
 -- What each shape finds, by what its parts promise.
 -- Assumes nothing.
+use Rattle.std.specs.Prelude.{⊤}
 use Rattle.std.proofs.Common.{◌≡◌, ℕ, suc, ◌+◌, ◌^◌, ◌<◌, ◌≤◌, Bool, T, eqb, leb, Option, Some, None, List, [], ◌∷◌, get_or, take, drop, sym, refl, ap, ◌∙◌, subst, inl, inr, add-one, arith, get_or-take, pow_mono}
 use borrow.Author.Tests.{lt-leb}
 use Rattle.refusal.specs.declared.Refusal.TheVariants.{NoGroup, NothingFollows, TypeThree}
@@ -18,9 +19,9 @@ use Rattle.table.specs.Sound.{sound}
 use Rattle.table.proofs.FieldLaws.{number-row}
 use Rattle.table.proofs.ShapeLaws.{sound-number, sound-missing}
 use Rattle.writing.specs.Pass.{Pass, Judge, Lay}
-use Rattle.writing.specs.declared.walks.Passed.{Passed}
-use Rattle.writing.specs.declared.walks.Passed.TheVariants as passed
-use Rattle.writing.specs.Lay.{Lent, Finds, Passes, Any, Writes}
+use Rattle.writing.specs.declared.walk.Passed.{Passed}
+use Rattle.writing.specs.declared.walk.Passed.TheVariants as passed
+use Rattle.writing.specs.Lay.{Lent, Finds, Passes, Any, Writes, reached}
 use Rattle.writing.specs.Found.{Looks, Puts, found_of, barred_of}
 use Rattle.writing.proofs.LayLaws.{finds}
 use Rattle.writing.proofs.LayShapes.{puts-found, puts-barred, bar-bad, bar-group}
@@ -31,17 +32,17 @@ abbrev m_bit : Field
 m_bit = record { width = 1; first = 0; codes = 1; refusal = TypeThree }
 
 -- what is promised of a shape
-abbrev Told : Pass → List ℕ → ℕ → ℕ → ℕ → Lent → Lent → Option Passed → Shape → Type 0
-Told pass s last at p out out' r x = Puts pass (Looks pass s last p x) (rows_of x [] p) s at p out out' r
+abbrev Told : Pass → List ℕ → ℕ → ℕ → ℕ → Lent → Lent → ℕ → Option Passed → Shape → Type 0
+Told pass s last at p out out' at' r x = Puts pass (Looks pass s last p x) (rows_of x [] p) s at p out out' at' r
 
-module _ (pass : Pass) (s : List ℕ) (last at p : ℕ) (x : Shape) {out out' : Lent} {r : Option Passed} (inside : p < places) where
+module _ (pass : Pass) (s : List ℕ) (last at p : ℕ) (x : Shape) {out out' : Lent} {at' : ℕ} {r : Option Passed} (inside : p < places) where
   -- where the shape is told by a match
-  when-told : (y : Shape) → x ≡ y → Told pass s last at p out out' r y → Told pass s last at p out out' r x
-  when-told y e f = subst (Told pass s last at p out out' r) (sym e) f
+  when-told : (y : Shape) → x ≡ y → Told pass s last at p out out' at' r y → Told pass s last at p out out' at' r x
+  when-told y e f = subst (Told pass s last at p out out' at' r) (sym e) f
 
-  module _ {f : Field} {t : Option ℕ} where
-    pub number-found : (w : ℕ) → x ≡ Number w → T (sound x p) → f ≡ number_field w → Passes pass f (get_or s p 0) at out out' t
-        → r ≡ found_of t (get_or s p 0) → Told pass s last at p out out' r x
+  module _ {f : Field} (t : Option ⊤) where
+    pub number-found : (w : ℕ) → x ≡ Number w → T (sound x p) → f ≡ number_field w → Passes pass f (get_or s p 0) at out out' (reached t at')
+        → r ≡ found_of t (get_or s p 0) → Told pass s last at p out out' at' r x
     unfolding rows_of
     number-found w e ok d g h =
         let fit = sound-number x p w e ok in
@@ -50,45 +51,45 @@ module _ (pass : Pass) (s : List ℕ) (last at p : ℕ) (x : Shape) {out out' : 
         let carried : get_or s p 0 ≡ held (number w []) (get_or s p 0) = rw (lt-leb (2 ^ w) 1 (omega arith)) in
         let one = field-writes g inside (subst (λ (c : Row). get_or s p 0 ≡ held c (get_or s p 0)) (sym same) carried) Any in
         when-told (Number w) e
-        (puts-found (subst (λ (c : Row). Writes pass Any (c ∷ []) s at p out out' t) same one) refl (inl refl) inside
+        (puts-found t (subst (λ (c : Row). Writes pass Any (c ∷ []) s at p out out' (reached t at')) same one) refl (inl refl) inside
         (Looks pass s last p (Number w)) _ r carried h)
 
-    pub choice-found : (w n : ℕ) → x ≡ Choice w n → f ≡ choice_field w n → Passes pass f (get_or s p 0) at out out' t
-        → r ≡ found_of t (get_or s p 0) → Told pass s last at p out out' r x
+    pub choice-found : (w n : ℕ) → x ≡ Choice w n → f ≡ choice_field w n → Passes pass f (get_or s p 0) at out out' (reached t at')
+        → r ≡ found_of t (get_or s p 0) → Told pass s last at p out out' at' r x
     unfolding rows_of
     choice-found w n e d g h =
-        let one = field-writes (subst (λ (y : Field). Passes pass y (get_or s p 0) at out out' t) d g) inside refl Any in
-        when-told (Choice w n) e (puts-found one refl (inr (omega arith)) inside (Looks pass s last p (Choice w n)) _ r refl h)
+        let one = field-writes (subst (λ (y : Field). Passes pass y (get_or s p 0) at out out' (reached t at')) d g) inside refl Any in
+        when-told (Choice w n) e (puts-found t one refl (inr (omega arith)) inside (Looks pass s last p (Choice w n)) _ r refl h)
 
   -- an identity, a list: the first row is a choice
-  pub identity-found : {t : Option ℕ} → x ≡ Identity → Writes pass Any (identity [] p) s at p out out' t → r ≡ found_of t (get_or s p 0)
-      → Told pass s last at p out out' r x
+  pub identity-found : (t : Option ⊤) → x ≡ Identity → Writes pass Any (identity [] p) s at p out out' (reached t at') → r ≡ found_of t (get_or s p 0)
+      → Told pass s last at p out out' at' r x
   unfolding rows_of
-  identity-found e g h = when-told Identity e (puts-found g refl (inr (omega arith)) inside (Looks pass s last p Identity) _ r refl h)
+  identity-found t e g h = when-told Identity e (puts-found t g refl (inr (omega arith)) inside (Looks pass s last p Identity) _ r refl h)
 
-  pub list-found : {t : Option ℕ} (items : Items) → x ≡ shape.List items → Writes pass Any (rows_of (shape.List items) [] p) s at p out out' t
-      → r ≡ found_of t (get_or s p 0) → Told pass s last at p out out' r x
+  pub list-found : (t : Option ⊤) (items : Items) → x ≡ shape.List items → Writes pass Any (rows_of (shape.List items) [] p) s at p out out' (reached t at')
+      → r ≡ found_of t (get_or s p 0) → Told pass s last at p out out' at' r x
   unfolding rows_of
-  list-found items e g h = when-told (shape.List items) e (puts-found g refl (inr (omega arith)) inside (Looks pass s last p (shape.List items)) _ r refl h)
+  list-found t items e g h = when-told (shape.List items) e (puts-found t g refl (inr (omega arith)) inside (Looks pass s last p (shape.List items)) _ r refl h)
 
   -- the M-bit is laid as 0, whatever its place holds
-  pub ending-found : {t : Option ℕ} → x ≡ Ending → Passes pass m_bit 0 at out out' t → r ≡ found_of t 0 → Told pass s last at p out out' r x
+  pub ending-found : (t : Option ⊤) → x ≡ Ending → Passes pass m_bit 0 at out out' (reached t at') → r ≡ found_of t 0 → Told pass s last at p out out' at' r x
   unfolding rows_of
-  ending-found e g h = when-told Ending e (puts-found (field-writes g inside refl Any) refl (inl refl) inside (Looks pass s last p Ending) 0 r refl h)
+  ending-found t e g h = when-told Ending e (puts-found t (field-writes g inside refl Any) refl (inl refl) inside (Looks pass s last p Ending) 0 r refl h)
 
 -- ---- the two refusals
 module _ (pass : Pass) (s : List ℕ) (last at p : ℕ) (x : Shape) {out : Lent} {r : Option Passed} (inside : p < places) (reason : Bool) where
-  pub missing-found : (q : ℕ) → x ≡ Missing q → T (sound x p) → reason ≡ eqb (get_or s q 0) No → r ≡ barred_of pass reason (Some passed.NoGroup) at
-      → Told pass s last at p out out r x
+  pub missing-found : (q : ℕ) → x ≡ Missing q → T (sound x p) → reason ≡ eqb (get_or s q 0) No → r ≡ barred_of pass reason (Some passed.NoGroup)
+      → Told pass s last at p out out at r x
   unfolding rows_of present
   missing-found q e ok d h =
       when-told pass s last at p x inside (Missing q) e
-      (puts-barred NoGroup (is q No) s at p out pass inside (Looks pass s last p (Missing q)) reason (Some passed.NoGroup) tt
+      (puts-barred NoGroup (is q No) s at p out pass inside (Looks pass s last p (Missing q)) reason (Some passed.NoGroup) (omega arith)
       (λ vs z k. finds pass (rw (get_or-take p vs q 0 (sound-missing x p q e ok)) (and-true (eqb (get_or vs q 0) No) ∙ k ∙ sym d)))
       (λ vs l z on. bar-group NoGroup (is q No) s at p out vs l z refl on)
       r h)
 
-  pub nothing-found : (o : ℕ) → x ≡ Nothing o → reason ≡ leb last (o + 1) → r ≡ barred_of pass reason None at → Told pass s last at p out out r x
+  pub nothing-found : (o : ℕ) → x ≡ Nothing o → reason ≡ leb last (o + 1) → r ≡ barred_of pass reason None → Told pass s last at p out out at r x
   unfolding rows_of present
   nothing-found o e d h =
       when-told pass s last at p x inside (Nothing o) e

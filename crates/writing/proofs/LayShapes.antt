@@ -1,5 +1,6 @@
 -- An element's rows, passed: what a shape finds, under its conditions or without.
 -- Assumes nothing.
+use Rattle.std.specs.Prelude.{⊤}
 use Rattle.std.proofs.Common.{◌≡◌, ℕ, zero, suc, ◌+◌, ◌*◌, ◌^◌, ◌<◌, ◌≤◌, Bool, true, false, cond, eqb, ltb, leb, ◌⊎◌, Option, Some, None, List, [], ◌∷◌, ◌++◌, length, get_or, take, drop, sym, refl, ap, ◌∙◌, subst, inl, inr, add-zero, add-one, arith, length-take-le, get_or-drop, get_or-take, take-suc, leb-true}
 use mathlib.Core.List.{tail}
 use native.Mathlib.Decide.{dec_lt}
@@ -23,10 +24,10 @@ use Rattle.layout.specs.declared.Shape.{Shape}
 use Rattle.layout.specs.declared.Shape.TheVariants.{Number, Choice, Identity, Ending, Missing, Nothing}
 use Rattle.layout.specs.declared.Shape.TheVariants as shape
 use Rattle.writing.specs.Pass.{Pass, Judge, Lay}
-use Rattle.writing.specs.declared.walks.Passed.{Passed}
-use Rattle.writing.specs.declared.walks.Passed.TheVariants.{Empty, Held, NoGroup}
-use Rattle.writing.specs.Lay.{Lent, Does, Finds, Lies, Lays, Ready, Any, Writes}
-use Rattle.writing.specs.Found.{PassedWithin, Looks, LooksAlong, Found, Puts, found_of, barred_of}
+use Rattle.writing.specs.declared.walk.Passed.{Passed}
+use Rattle.writing.specs.declared.walk.Passed.TheVariants.{Empty, NoGroup}
+use Rattle.writing.specs.Lay.{Lent, Does, Finds, Lies, Lays, Ready, Any, Writes, Within, reached}
+use Rattle.writing.specs.Found.{Looks, LooksAlong, Found, Puts, found_of, barred_of}
 use Rattle.writing.proofs.LayLaws.{stays_none, finds, lay-under, over_none, kept, laying}
 
 -- ---- what the first row of an element leaves in the cleaned record
@@ -78,27 +79,17 @@ module _ (c : Row) (more : List Row) (plain : c.hang ≡ []) where
         go Lay g = tt
 
 -- ---- by the value at its first place
-pub found-empty : {x : Option ℕ} {at v : ℕ} → x ≡ Some at → v ≡ 0 → Some (Empty at) ≡ found_of x v
-found-empty e d = rw (e, d)
-
-pub found-held : {x : Option ℕ} {at v : ℕ} → x ≡ Some at → (v ≡ 0 → ⊥) → Some (Held at) ≡ found_of x v
-found-held {x} {at} {v} e d = go v d ∙ ap (λ (y : Option ℕ). found_of y v) (sym e)
-  where
-    go : (v : ℕ) → (v ≡ 0 → ⊥) → Some (Held at) ≡ found_of (Some at) v
-    go zero d = absurd (d refl)
-    go (suc v) d = refl
-
-module _ {pass : Pass} {c : Row} {more : List Row} {s : List ℕ} {at p : ℕ} {out out' : Lent} {x : Option ℕ} (f : Writes pass Any (c ∷ more) s at p out out' x)
-    (plain : c.hang ≡ []) (one : (more ≡ []) ⊎ (0 < c.first)) (inside : p < places) where
+module _ {pass : Pass} {c : Row} {more : List Row} {s : List ℕ} {at p at' : ℕ} {out out' : Lent} (x : Option ⊤)
+    (f : Writes pass Any (c ∷ more) s at p out out' (reached x at')) (plain : c.hang ≡ []) (one : (more ≡ []) ⊎ (0 < c.first)) (inside : p < places) where
   pub puts-found : (known : List ℕ → Type 0) (value : ℕ) (r : Option Passed) → value ≡ held c (get_or s p 0) → r ≡ found_of x value
-      → Puts pass known (c ∷ more) s at p out out' r
-  puts-found known value r d e = subst (Puts pass known (c ∷ more) s at p out out') (sym e) (go x value d f)
+      → Puts pass known (c ∷ more) s at p out out' at' r
+  puts-found known value r d e = subst (Puts pass known (c ∷ more) s at p out out' at') (sym e) (go x value d f)
     where
-      go : (x : Option ℕ) (value : ℕ) → value ≡ held c (get_or s p 0) → Writes pass Any (c ∷ more) s at p out out' x
-          → Puts pass known (c ∷ more) s at p out out' (found_of x value)
+      go : (x : Option ⊤) (value : ℕ) → value ≡ held c (get_or s p 0) → Writes pass Any (c ∷ more) s at p out out' (reached x at')
+          → Puts pass known (c ∷ more) s at p out out' at' (found_of x value)
       go None value d f =
           record { lent = f.lent; within = tt; finds = λ vs size z k. let w = f.lays vs size z tt in (w.0, w.1.size, w.1.ends) }
-      go (Some at') zero d f =
+      go (Some u) zero d f =
           record {
             lent = f.lent;
             within = f.within;
@@ -109,7 +100,7 @@ module _ {pass : Pass} {c : Row} {more : List Row} {s : List ℕ} {at p : ℕ} {
                   (w.1.ends, nothing-held c more plain pass s at at' p vs w.0 out out' (omega arith) w.1 (sym d) one z w.1.ends.1),
                 );
           }
-      go (Some at') (suc v) d f =
+      go (Some u) (suc v) d f =
           record {
             lent = f.lent;
             within = f.within;
@@ -150,31 +141,31 @@ module _ (n : Refusal) (c : Condition) (s : List ℕ) (at p : ℕ) (out : Lent) 
         does Lay false = λ g. over_none out.bytes at
 
     -- the walk that lays passes it
-    bar-laying : (b : Bool) → present (take p vs) (c ∷ []) ≡ b → Found Lay (lay bar (take p vs) (drop p s)) 1 at p vs vs out out (Some (Empty at))
-    bar-laying b e = subst (λ (l : List Laid). Found Lay l 1 at p vs vs out out (Some (Empty at))) (sym (bar-laid b e)) ((bar-lies Lay b, tt), tt)
+    bar-laying : (b : Bool) → present (take p vs) (c ∷ []) ≡ b → Found Lay (lay bar (take p vs) (drop p s)) 1 at p vs vs out out at (Some Empty)
+    bar-laying b e = subst (λ (l : List Laid). Found Lay l 1 at p vs vs out out at (Some Empty)) (sym (bar-laid b e)) ((bar-lies Lay b, tt), tt)
 
-    bar-off : present (take p vs) (c ∷ []) ≡ false → Found Judge (lay bar (take p vs) (drop p s)) 1 at p vs vs out out (Some (Empty at))
-    bar-off e = subst (λ (l : List Laid). Found Judge l 1 at p vs vs out out (Some (Empty at))) (sym (bar-laid false e)) ((bar-lies Judge false, refl), z)
+    bar-off : present (take p vs) (c ∷ []) ≡ false → Found Judge (lay bar (take p vs) (drop p s)) 1 at p vs vs out out at (Some Empty)
+    bar-off e = subst (λ (l : List Laid). Found Judge l 1 at p vs vs out out at (Some Empty)) (sym (bar-laid false e)) ((bar-lies Judge false, refl), z)
 
     pub bar-bad : eqb (number_of n) 5 ≡ false → present (take p vs) (c ∷ []) ≡ true
-        → Found Judge (lay bar (take p vs) (drop p s)) 1 at p vs vs out out None
+        → Found Judge (lay bar (take p vs) (drop p s)) 1 at p vs vs out out at None
     bar-bad h e = ap (all good_but_group) (bar-laid true e) ∙ rw h
 
     pub bar-group : eqb (number_of n) 5 ≡ true → present (take p vs) (c ∷ []) ≡ true
-        → Found Judge (lay bar (take p vs) (drop p s)) 1 at p vs vs out out (Some NoGroup)
+        → Found Judge (lay bar (take p vs) (drop p s)) 1 at p vs vs out out at (Some NoGroup)
     bar-group h e =
-        subst (λ (l : List Laid). Found Judge l 1 at p vs vs out out (Some NoGroup)) (sym (bar-laid true e)) (bar-lies Judge true, refl, rw h, z)
+        subst (λ (l : List Laid). Found Judge l 1 at p vs vs out out at (Some NoGroup)) (sym (bar-laid true e)) (bar-lies Judge true, refl, rw h, z)
 
   -- by the reason and the walk
-  module _ (pass : Pass) (inside : p < places) (known : List ℕ → Type 0) (reason : Bool) (refusal : Option Passed) (small : PassedWithin refusal (at + 32))
+  module _ (pass : Pass) (inside : p < places) (known : List ℕ → Type 0) (reason : Bool) (refusal : Option Passed) (small : Within (reached refusal at) (at + 32))
       (tells : (vs : List ℕ) → Clear vs p → known vs → Finds pass (present (take p vs) (c ∷ []) ≡ reason))
       (stops : (vs : List ℕ) → p < length vs → Clear vs p → present (take p vs) (c ∷ []) ≡ true
-      → Found Judge (lay bar (take p vs) (drop p s)) 1 at p vs vs out out refusal) where
-    pub puts-barred : (r : Option Passed) → r ≡ barred_of pass reason refusal at → Puts pass known bar s at p out out r
-    puts-barred r e = subst (Puts pass known bar s at p out out) (sym e) (go pass reason tells)
+      → Found Judge (lay bar (take p vs) (drop p s)) 1 at p vs vs out out at refusal) where
+    pub puts-barred : (r : Option Passed) → r ≡ barred_of pass reason refusal → Puts pass known bar s at p out out at r
+    puts-barred r e = subst (Puts pass known bar s at p out out at) (sym e) (go pass reason tells)
       where
         go : (pass : Pass) (b : Bool) → ((vs : List ℕ) → Clear vs p → known vs → Finds pass (present (take p vs) (c ∷ []) ≡ b))
-            → Puts pass known bar s at p out out (barred_of pass b refusal at)
+            → Puts pass known bar s at p out out at (barred_of pass b refusal)
         go Judge true t =
             record { lent = stays_none; within = small; finds = λ vs size z k. (vs, refl, stops vs (omega arith) z (t vs z k)) }
         go Judge false t =
@@ -199,20 +190,20 @@ module _ (pass : Pass) (e : Element) (s : List ℕ) (last at p : ℕ) where
   abbrev hang : List Condition
   hang = conditions_of e.0
 
-  pub element-puts : {out out' : Lent} {r : Option Passed} → present s hang ≡ true
-      → Puts pass (Looks pass s last p e.1) (rows_of e.1 [] p) s at p out out' r
-      → Puts pass (LooksAlong pass s last p e) (rows_of e.1 hang p) s at p out out' r
-  element-puts {out} {out'} {r} on f =
+  pub element-puts : {out out' : Lent} {at' : ℕ} {r : Option Passed} → present s hang ≡ true
+      → Puts pass (Looks pass s last p e.1) (rows_of e.1 [] p) s at p out out' at' r
+      → Puts pass (LooksAlong pass s last p e) (rows_of e.1 hang p) s at p out out' at' r
+  element-puts {out} {out'} {at'} {r} on f =
       record {
         lent = f.lent;
-        within = subst (λ (m : ℕ). PassedWithin r (at + 32 * m)) n f.within;
+        within = subst (λ (m : ℕ). Within (reached r at') (at + 32 * m)) n f.within;
         finds = λ vs size z k.
             let w = f.finds vs size z (k.looks on) in
             let same = lay-shape e.1 hang p (take p vs) (drop p s) (present-before e.0 vs p z ∙ k.hang ∙ on) in (
               w.0,
               w.1,
-              subst (λ (l : List Laid). Found pass l (length (rows_of e.1 hang p)) at p vs w.0 out out' r) (sym same)
-                  (subst (λ (m : ℕ). Found pass (lay (rows_of e.1 [] p) (take p vs) (drop p s)) m at p vs w.0 out out' r) n w.2),
+              subst (λ (l : List Laid). Found pass l (length (rows_of e.1 hang p)) at p vs w.0 out out' at' r) (sym same)
+                  (subst (λ (m : ℕ). Found pass (lay (rows_of e.1 [] p) (take p vs) (drop p s)) m at p vs w.0 out out' at' r) n w.2),
             );
       }
     where
@@ -220,7 +211,7 @@ module _ (pass : Pass) (e : Element) (s : List ℕ) (last at p : ℕ) where
       n = length-shape e.1 [] p ∙ sym (length-shape e.1 hang p)
 
   pub element-off : (out : Lent) → present s hang ≡ false → p + span e.1 ≤ places
-      → Puts pass (LooksAlong pass s last p e) (rows_of e.1 hang p) s at p out out (Some (Empty at))
+      → Puts pass (LooksAlong pass s last p e) (rows_of e.1 hang p) s at p out out at (Some Empty)
   element-off out off room =
       record {
         lent = stays_none;

@@ -8,8 +8,15 @@ use Rattle.layout.specs.Write.{held}
 use Rattle.table.specs.declared.Field.{Field}
 use Rattle.table.specs.Fields.{row_for}
 use Rattle.table.specs.Sound.{Clear}
-use Rattle.writing.specs.Lay.{Lent, most_bits, Within, Ready, Passes, Lays, Known, Writes}
+use Rattle.writing.specs.Lay.{Lent, most_bits, reached, Within, Ready, Passes, Lays, Known, Writes}
 use Rattle.writing.proofs.LayLaws.{kept, laying, stays_on}
+
+-- ---- where a walk goes on, by what a match has told
+pub goes_on : {A : Type 0} {r : Option A} {x : A} {at : ℕ} → r ≡ Some x → reached r at ≡ Some at
+goes_on e = rw e
+
+pub goes-off : {A : Type 0} {r : Option A} (at : ℕ) → r ≡ None → reached r at ≡ None
+goes-off at e = rw e
 
 -- ---- what the next part starts from
 pub ready-most : {at p n : ℕ} → Ready at p n → at ≤ most_bits

@@ -21,12 +21,12 @@ use Rattle.table.proofs.Walks.{clear_none, clear_later}
 use Rattle.table.proofs.ShapeLaws.{sound-nothing}
 use Rattle.table.proofs.TableLaws.{Placed, placed-none, first, element-room, element-sound, element-rows, element-more}
 use Rattle.writing.specs.Pass.{Pass, Judge, Lay}
-use Rattle.writing.specs.declared.walks.Passed.{Passed}
-use Rattle.writing.specs.declared.walks.Passed.TheVariants.{Empty, Held}
-use Rattle.writing.specs.declared.walks.Passed.TheVariants as passed
+use Rattle.writing.specs.declared.walk.Passed.{Passed}
+use Rattle.writing.specs.declared.walk.Passed.TheVariants.{Empty, Held}
+use Rattle.writing.specs.declared.walk.Passed.TheVariants as passed
 use Rattle.refusal.specs.declared.Refusal.TheVariants.{Reserved, NoGroup}
-use Rattle.writing.specs.Lay.{Lent, Stays, Does, Finds, Lies, Ready}
-use Rattle.writing.specs.Found.{Looks, LooksAlong, Found, PassedWithin, Puts}
+use Rattle.writing.specs.Lay.{Lent, Stays, Does, Finds, Lies, Ready, Within, reached}
+use Rattle.writing.specs.Found.{Looks, LooksAlong, Found, Puts}
 use Rattle.writing.specs.Whole.{Outcome, Walks}
 use Rattle.writing.proofs.LayLaws.{lay-append, vals-append, lies-none, lies-join, stays_none, stays_on, finds}
 use Rattle.writing.proofs.Since.{Since, since_none, since-empty, since-held}
@@ -171,15 +171,15 @@ module _ {pass : Pass} {kind : Kind} {es : List Element} {s : List ℕ} {out₀ 
     n-rows : length own-rows ≡ span e.1
     n-rows = length-shape e.1 (conditions_of e.0) p
 
-    module _ {out' : Lent} {r : Option Passed} {w : ℕ} (f : Puts pass (LooksAlong pass s last p e) own-rows s at p out out' r) (takes : w ≡ span e.1) where
-      after : (vs' : List ℕ) × (length vs' ≡ length now.vs) × Found pass here (length own-rows) at p now.vs vs' out out' r
+    module _ {out' : Lent} {at' : ℕ} {r : Option Passed} {w : ℕ} (f : Puts pass (LooksAlong pass s last p e) own-rows s at p out out' at' r) (takes : w ≡ span e.1) where
+      after : (vs' : List ℕ) × (length vs' ≡ length now.vs) × Found pass here (length own-rows) at p now.vs vs' out out' at' r
       after = f.finds now.vs now.size now.clear looks-along
 
       -- one element more
-      more : (grouped' : Bool) (last' at' : ℕ) → Lies pass here (length own-rows) at at' p now.vs after.0 out out' → at' ≤ at + 32 * length own-rows
+      more : (grouped' : Bool) (last' : ℕ) → Lies pass here (length own-rows) at at' p now.vs after.0 out out' → at' ≤ at + 32 * length own-rows
           → Fine pass (now.done ++ here) grouped' → Finds pass (Since es (count + 1) after.0 (p + span e.1) last')
           → Wrote pass kind es s out₀ out' grouped' last' at' (p + w) (count + 1)
-      more grouped' last' at' g small fine since =
+      more grouped' last' g small fine since =
           let vs' = after.0 in
           let left_over : List Element = drop (count + 1) es in
           subst (λ (x : ℕ). Wrote pass kind es s out₀ out' grouped' last' at' (p + x) (count + 1)) (sym takes)
@@ -222,36 +222,36 @@ module _ {pass : Pass} {kind : Kind} {es : List Element} {s : List ℕ} {out₀ 
       room' : p + span e.1 ≤ length after.0
       room' = omega (arith, after.1, now.size, turn-room)
 
-      found : (x : Option Passed) → r ≡ x → Found pass here (length own-rows) at p now.vs after.0 out out' x
-      found x e = subst (Found pass here (length own-rows) at p now.vs after.0 out out') e after.2
+      found : (x : Option Passed) → r ≡ x → Found pass here (length own-rows) at p now.vs after.0 out out' at' x
+      found x e = subst (Found pass here (length own-rows) at p now.vs after.0 out out' at') e after.2
 
-      within : (x : Option Passed) → r ≡ x → PassedWithin x (at + 32 * length own-rows)
-      within x e = subst (λ (y : Option Passed). PassedWithin y (at + 32 * length own-rows)) e f.within
+      within : (x : Option Passed) → r ≡ x → Within (reached x at') (at + 32 * length own-rows)
+      within x e = subst (λ (y : Option Passed). Within (reached y at') (at + 32 * length own-rows)) e f.within
 
-      pub turn-empty : {at' : ℕ} → r ≡ Some (Empty at') → Wrote pass kind es s out₀ out' grouped last at' (p + w) (count + 1)
-      turn-empty {at'} q =
-          let g = found (Some (Empty at')) q in
-          more grouped last at' g.0.0 (within (Some (Empty at')) q) (fine-on pass now.fine g.0.1) (noted pass g.0.0 g.1 now.since)
+      pub turn-empty : r ≡ Some Empty → Wrote pass kind es s out₀ out' grouped last at' (p + w) (count + 1)
+      turn-empty q =
+          let g = found (Some Empty) q in
+          more grouped last g.0.0 (within (Some Empty) q) (fine-on pass now.fine g.0.1) (noted pass g.0.0 g.1 now.since)
         where
           noted : (pass : Pass) → Lies pass here (length own-rows) at at' p now.vs after.0 out out' → Finds pass (Clear after.0 p)
               → Finds pass (Since es count now.vs p last) → Finds pass (Since es (count + 1) after.0 (p + span e.1) last)
           noted Judge g z a = since-empty es count now.vs after.0 p last e a next room' g.before z
           noted Lay g z a = tt
 
-      pub turn-held : {at' : ℕ} → r ≡ Some (Held at') → Wrote pass kind es s out₀ out' grouped (p + 1) at' (p + w) (count + 1)
-      turn-held {at'} q =
-          let g = found (Some (Held at')) q in
-          more grouped (p + 1) at' g.0.0 (within (Some (Held at')) q) (fine-on pass now.fine g.0.1) (noted pass g.0.0 g.1 now.since)
+      pub turn-held : r ≡ Some Held → Wrote pass kind es s out₀ out' grouped (p + 1) at' (p + w) (count + 1)
+      turn-held q =
+          let g = found (Some Held) q in
+          more grouped (p + 1) g.0.0 (within (Some Held) q) (fine-on pass now.fine g.0.1) (noted pass g.0.0 g.1 now.since)
         where
           noted : (pass : Pass) → Lies pass here (length own-rows) at at' p now.vs after.0 out out' → Finds pass (get_or after.0 p 0 ≡ 0 → ⊥)
               → Finds pass (Since es count now.vs p last) → Finds pass (Since es (count + 1) after.0 (p + span e.1) (p + 1))
           noted Judge g some a = since-held es count now.vs after.0 p last e a next room' g.before some
           noted Lay g some a = tt
 
-      pub turn-missing : r ≡ Some passed.NoGroup → Wrote pass kind es s out₀ out' false last at (p + w) (count + 1)
+      pub turn-missing : r ≡ Some passed.NoGroup → Wrote pass kind es s out₀ out' false last at' (p + w) (count + 1)
       turn-missing q =
           let g = found (Some passed.NoGroup) q in
-          more false last at g.0 (omega arith) (fine-missing pass now.fine g.1 g.2) (noted pass now.since)
+          more false last g.0 (within (Some passed.NoGroup) q) (fine-missing pass now.fine g.1 g.2) (noted pass now.since)
         where
           noted : (pass : Pass) → Finds pass (Since es count now.vs p last) → Finds pass (Since es (count + 1) after.0 (p + span e.1) last)
           noted Judge a =

@@ -1,9 +1,9 @@
 -- Elements, part way: what the writer's parts promise of an element, by what it looks at.
 -- Assumes nothing.
-use Rattle.std.specs.Prelude.{◌≡◌, ℕ, zero, suc, ◌+◌, ◌*◌, ◌≤◌, Bool, true, false, Option, Some, None, List, length, take, drop, ◌==◌, ◌≢◌, nat_eq, nat_le, slice_index}
+use Rattle.std.specs.Prelude.{◌≡◌, ℕ, zero, suc, ◌+◌, ◌*◌, Bool, true, false, Option, Some, None, ⊤, List, length, take, drop, ◌==◌, ◌≢◌, nat_eq, nat_le, slice_index}
 use Rattle.writing.specs.Pass.{Pass, Judge, Lay}
-use Rattle.writing.specs.declared.walks.Passed.{Passed}
-use Rattle.writing.specs.declared.walks.Passed.TheVariants.{Empty, Held, NoGroup}
+use Rattle.writing.specs.declared.walk.Passed.{Passed}
+use Rattle.writing.specs.declared.walk.Passed.TheVariants.{Empty, Held, NoGroup}
 use Rattle.layout.specs.declared.Shape.{Shape}
 use Rattle.layout.specs.declared.Shape.TheVariants.{Number, Choice, Identity, Ending, Missing, Nothing}
 use Rattle.layout.specs.declared.Shape.TheVariants as shape
@@ -13,7 +13,7 @@ use Rattle.layout.specs.Shape.{No, conditions_of}
 use Rattle.layout.specs.Frame.{places}
 use Rattle.layout.specs.Write.{Laid, lay, good, good_but_group}
 use Rattle.table.specs.Sound.{Clear}
-use Rattle.writing.specs.Lay.{Lent, Stays, Finds, Lies, Ends}
+use Rattle.writing.specs.Lay.{Lent, Stays, Finds, Lies, Ends, Within, reached}
 
 -- what a shape looks at, besides its own places: a group's place as the caller's record has it; whether anything came since an O-bit, as the judge has noted
 abbrev pub Looks : Pass → List ℕ → ℕ → ℕ → Shape → List ℕ → Type 0
@@ -30,35 +30,29 @@ pub record LooksAlong (pass : Pass) (s : List ℕ) (last p : ℕ) (e : Element) 
   pub hang : present vs (conditions_of e.0) ≡ present s (conditions_of e.0)
   pub looks : present s (conditions_of e.0) ≡ true → Looks pass s last p e.1 vs
 
--- how the passing of an element ends. Where it is empty, the cleaned record holds nothing from its place on; where it holds something, it does so at its place.
--- The missing group's row has no bits
-abbrev pub Found : Pass → List Laid → ℕ → ℕ → ℕ → List ℕ → List ℕ → Lent → Lent → Option Passed → Type 0
-Found pass laid n at p vs vs' out out' (Some (Empty at')) = Ends pass laid n at p vs vs' out out' (Some at') × Finds pass (Clear vs' p)
-Found pass laid n at p vs vs' out out' (Some (Held at')) = Ends pass laid n at p vs vs' out out' (Some at') × Finds pass (slice_index vs' p ≢ 0)
-Found pass laid n at p vs vs' out out' None = Ends pass laid n at p vs vs' out out' None
-Found pass laid n at p vs vs' out out' (Some NoGroup) =
-    Lies pass laid n at at p vs vs' out out' × (all good laid ≡ false) × (all good_but_group laid ≡ true) × Clear vs' p
+-- how the passing of an element ends, at the bit at'. Where it is empty, the cleaned record holds nothing from its place on; where it holds something,
+-- it does so at its place. The missing group's row has no bits
+abbrev pub Found : Pass → List Laid → ℕ → ℕ → ℕ → List ℕ → List ℕ → Lent → Lent → ℕ → Option Passed → Type 0
+Found pass laid n at p vs vs' out out' at' (Some Empty) = Ends pass laid n at p vs vs' out out' (Some at') × Finds pass (Clear vs' p)
+Found pass laid n at p vs vs' out out' at' (Some Held) = Ends pass laid n at p vs vs' out out' (Some at') × Finds pass (slice_index vs' p ≢ 0)
+Found pass laid n at p vs vs' out out' at' (Some NoGroup) =
+    Lies pass laid n at at' p vs vs' out out' × (all good laid ≡ false) × (all good_but_group laid ≡ true) × Clear vs' p
+Found pass laid n at p vs vs' out out' at' None = Ends pass laid n at p vs vs' out out' None
 
-abbrev pub PassedWithin : Option Passed → ℕ → Type 0
-PassedWithin (Some (Empty at)) most = at ≤ most
-PassedWithin (Some (Held at)) most = at ≤ most
-PassedWithin None most = Unit {0}
-PassedWithin (Some NoGroup) most = Unit {0}
-
-pub record Puts (pass : Pass) (known : List ℕ → Type 0) (rows : List Row) (s : List ℕ) (at p : ℕ) (out out' : Lent) (r : Option Passed) : Type 0 where
+pub record Puts (pass : Pass) (known : List ℕ → Type 0) (rows : List Row) (s : List ℕ) (at p : ℕ) (out out' : Lent) (at' : ℕ) (r : Option Passed) : Type 0 where
   pub lent : Stays out out'
-  pub within : PassedWithin r (at + 32 * length rows)
+  pub within : Within (reached r at') (at + 32 * length rows)
   pub finds : (vs : List ℕ) → length vs ≡ places → Clear vs p → known vs
-      → (vs' : List ℕ) × (length vs' ≡ length vs) × Found pass (lay rows (take p vs) (drop p s)) (length rows) at p vs vs' out out' r
+      → (vs' : List ℕ) × (length vs' ≡ length vs) × Found pass (lay rows (take p vs) (drop p s)) (length rows) at p vs vs' out out' at' r
 
 -- by the value at its first place
-abbrev pub found_of : Option ℕ → ℕ → Option Passed
-found_of (Some at) zero = Some (Empty at)
-found_of (Some at) (suc v) = Some (Held at)
+abbrev pub found_of : Option ⊤ → ℕ → Option Passed
+found_of (Some u) zero = Some Empty
+found_of (Some u) (suc v) = Some Held
 found_of None v = None
 
--- a refusal, if there is a reason and the walk judges
-abbrev pub barred_of : Pass → Bool → Option Passed → ℕ → Option Passed
-barred_of Judge true refusal at = refusal
-barred_of Judge false refusal at = Some (Empty at)
-barred_of Lay reason refusal at = Some (Empty at)
+-- a refusal, if there is a reason and the pass judges
+abbrev pub barred_of : Pass → Bool → Option Passed → Option Passed
+barred_of Judge true refusal = refusal
+barred_of Judge false refusal = Some Empty
+barred_of Lay reason refusal = Some Empty

@@ -61,6 +61,11 @@ pub record Lays (pass : Pass) (rows : List Row) (s : List ℕ) (at p : ℕ) (vs 
   pub ends : Ends pass (lay rows (take p vs) (drop p s)) (length rows) at p vs vs' out out' r
 
 -- ---- what the parts promise
+-- where a walk goes on, if it does
+abbrev pub reached : {A : Type 0} → Option A → ℕ → Option ℕ
+reached (Some x) at = Some at
+reached None at = None
+
 -- the next bit, where there is one, is not behind this
 abbrev pub Within : Option ℕ → ℕ → Type 0
 Within (Some at) most = at ≤ most

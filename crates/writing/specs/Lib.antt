@@ -2,4 +2,5 @@
 pub mod Pass
 pub mod Lay
 pub mod Found
+pub mod Goes
 pub mod Whole

@@ -5,11 +5,11 @@ ghost use Rattle.layout.specs.Frame.{laid};
 ghost use Rattle.layout.specs.Shape.{rows_of, span, conditions_of};
 ghost use Rattle.table.specs.Sound.{sound};
 ghost use Rattle.writing.specs.Lay.{Ready};
-ghost use Rattle.writing.specs.Found.{Puts, Looks, LooksAlong, found_of};
+ghost use Rattle.writing.specs.Found.{Looks, LooksAlong, found_of};
+ghost use Rattle.writing.specs.Goes.{GoesBy, SameWalk};
 ghost use Rattle.writing.specs.Whole.{Walks};
 
-use crate::items::{walk_identity, walk_list};
-use crate::walks::{Passed, Walk};
+use crate::walk::{Pass, Passed, Walk};
 use layout::{Element, Kind, PLACES, Shape};
 use refusal::Refusal;
 use table::fields::{M_BIT, choice, number};
@@ -18,92 +18,84 @@ use table::lines::{HEAD_BITS, table_of};
 use table::tests::{IF_NO, holds, there};
 
 // What was passed, by the value at its first place.
-fn found(put: Option<usize>, value: u32) -> Option<Passed>
+fn found(put: Option<()>, value: u32) -> Option<Passed>
     ensures { result ≡ found_of put value }
 {
-    let at = put?;
+    put?;
     Some(if value == 0 {
-        Passed::Empty(at)
+        Passed::Empty
     } else {
-        Passed::Held(at)
+        Passed::Held
     })
 }
 
-// The rows of a shape that is there. `last` is the place behind the first of the last element before it that holds anything.
-fn walk_shape<W: Walk>(
-    walk: &mut W,
-    values: &[u32; PLACES],
-    at: usize,
-    place: usize,
-    shape: Shape,
-    last: usize,
-) -> Option<Passed>
-    requires { Ready at place (span shape) × T (sound shape place) }
-    ensures { Puts W.pass (Looks W.pass values.now last place shape) (rows_of shape [] place) values.now at place
-        (W.lent walk.old) (W.lent walk.new) result }
-{
-    let value = values[place];
-    match shape {
-        Shape::Number(w) => found(walk.field(at, value, number(w)), value),
-        Shape::Choice(w, n) => found(walk.field(at, value, choice(w, n)), value),
-        Shape::Identity => found(walk_identity(walk, values, at, place), value),
-        Shape::List(items) => found(walk_list(walk, values, at, place, items), value),
-        Shape::Ending => found(walk.field(at, 0, M_BIT), 0),
-        Shape::Missing(q) => walk.barred(holds(values, q, IF_NO), Some(Passed::NoGroup), at),
-        Shape::Nothing(o) => walk.barred(last <= o as usize + 1, None, at),
+impl<'p, 'v, P: Pass> Walk<'p, 'v, P> {
+    // The rows of a shape that is there. `last` is the place behind the first of the last element before it that holds anything.
+    fn shape(&mut self, place: usize, shape: Shape, last: usize) -> Option<Passed>
+        requires { Ready self.old.at place (span shape) × T (sound shape place) }
+        ensures puts { GoesBy P.pass P.lent (Looks P.pass self.old.values.now last place shape) (rows_of shape [] place) place self.old self.new result }
+        ensures stays { SameWalk self.old self.new }
+    {
+        let values = self.values;
+        let value = values[place];
+        match shape {
+            Shape::Number(w) => found(self.field(value, number(w)), value),
+            Shape::Choice(w, n) => found(self.field(value, choice(w, n)), value),
+            Shape::Identity => found(self.identity(place), value),
+            Shape::List(items) => found(self.list(place, items), value),
+            Shape::Ending => found(self.field(0, M_BIT), 0),
+            Shape::Missing(q) => self
+                .pass
+                .barred(holds(values, q, IF_NO), Some(Passed::NoGroup)),
+            Shape::Nothing(o) => self.pass.barred(last <= o as usize + 1, None),
+        }
     }
-}
 
-// An element: its rows if it is there, else nothing.
-fn walk_element<W: Walk>(
-    walk: &mut W,
-    values: &[u32; PLACES],
-    at: usize,
-    place: usize,
-    element: Element,
-    last: usize,
-) -> Option<Passed>
-    requires { Ready at place (span element.1) × T (sound element.1 place) }
-    ensures { Puts W.pass (LooksAlong W.pass values.now last place element) (rows_of element.1 (conditions_of element.0) place)
-        values.now at place (W.lent walk.old) (W.lent walk.new) result }
-{
-    if there(values, element.0) {
-        walk_shape(walk, values, at, place, element.1, last)
-    } else {
-        Some(Passed::Empty(at))
+    // An element: its rows if it is there, else nothing.
+    fn element(&mut self, place: usize, element: Element, last: usize) -> Option<Passed>
+        requires { Ready self.old.at place (span element.1) × T (sound element.1 place) }
+        ensures puts { GoesBy P.pass P.lent (LooksAlong P.pass self.old.values.now last place element) (rows_of element.1 (conditions_of element.0) place) place self.old self.new result }
+        ensures stays { SameWalk self.old self.new }
+    {
+        let values = self.values;
+        if there(values, element.0) {
+            self.shape(place, element.1, last)
+        } else {
+            Some(Passed::Empty)
+        }
     }
 }
 
 // The elements of a kind's table, after the head: the bit behind them, or why the record has no frame.
-pub fn walk_elements<W: Walk>(
-    walk: &mut W,
+pub fn walk_elements<P: Pass>(
+    pass: &mut P,
     kind: Kind,
     values: &[u32; PLACES],
 ) -> Result<usize, Refusal>
-    ensures { Walks W.pass (laid kind values.now) (W.lent walk.old) (W.lent walk.new) result }
+    ensures { Walks P.pass (laid kind values.now) (P.lent pass.old) (P.lent pass.new) result }
 {
+    let mut walk = Walk {
+        pass,
+        values,
+        at: HEAD_BITS,
+    };
     let mut grouped = true;
-    let mut at = HEAD_BITS;
     let mut place = 0;
     let mut last = 0;
     for &element in table_of(kind) {
-        let here = place;
-        place += places_of(element.1);
-        match walk_element(walk, values, at, here, element, last).ok_or(Refusal::Reserved)? {
-            Passed::Empty(next) => {
-                at = next;
-            }
-            Passed::Held(next) => {
-                at = next;
-                last = here + 1;
+        match walk.element(place, element, last).ok_or(Refusal::Reserved)? {
+            Passed::Empty => {}
+            Passed::Held => {
+                last = place + 1;
             }
             Passed::NoGroup => {
                 grouped = false;
             }
         }
+        place += places_of(element.1);
     }
     if grouped {
-        Ok(at)
+        Ok(walk.at)
     } else {
         Err(Refusal::NoGroup)
     }

@@ -3,7 +3,7 @@
 // Writing a frame: one walk over the record judges and counts, and lays nothing; a second lays the bits into the lent bytes, and judges nothing.
 mod elements;
 mod items;
-mod walks;
+mod walk;
 
 ghost use Rattle.std.specs.Prelude.{◌≡◌, ◌-◌, ◌*◌, ◌≤◌, T, Ok, ◌++◌, length, drop};
 ghost use Rattle.bits.specs.Bits.{bytes_for, bytes_of};
@@ -17,7 +17,7 @@ use elements::walk_elements;
 use layout::{Kind, PLACES};
 use refusal::Refusal;
 use table::lines::{ACTION_TYPE_BITS, SS_TYPE, SS_TYPE_BITS, action_type};
-use walks::{Judge, Lay};
+use walk::{Judge, Lay};
 
 // A whole frame that is known to be writable: the head, then the elements.
 fn lay_frame(kind: Kind, values: &[u32; PLACES], out: &mut [u8])

@@ -2,7 +2,7 @@
 -- Assumes nothing.
 use Rattle.std.proofs.Common.{arith}
 use Rattle.writing.proofs.LayLaws.{stays_none, field-good, field-bad}
-use Rattle.writing.proofs.walks.JudgeWalk.field.Goals as goal
+use Rattle.writing.proofs.walk.JudgePass.put.Goals as goal
 
 pub returns-then-field-wrapping_sub_u32 : goal.returns-then-field-wrapping_sub_u32
 returns-then-field-wrapping_sub_u32 c =

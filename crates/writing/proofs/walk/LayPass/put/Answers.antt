@@ -3,7 +3,7 @@
 use Rattle.std.proofs.Common.{◌∙◌, ap, length, refl, arith}
 use Rattle.bits.proofs.Laws.{length-put_at}
 use Rattle.writing.proofs.LayLaws.{field-laid}
-use Rattle.writing.proofs.walks.LayWalk.field.Goals as goal
+use Rattle.writing.proofs.walk.LayPass.put.Goals as goal
 
 pub returns : goal.returns
 returns c =
