@@ -19,7 +19,7 @@ pub returns-in_err-form_fault : goal.returns-in_err-form_fault
 returns-in_err-form_fault c asks =
     let a = c.args in
     let x = contents_of a.lent in
-    let w = c.written.ensures.1 c.if-not-written.false in
+    let w = c.written.ensures.1 (search rules) in
     let r = c.in_err-form_fault.field-0.0 in
     let back : c.from_residual.result ≡ Err r = search rules in
     let t = form-refused x w a.asker a.groups a.asks.now.remove a.asks.now.deassign a.radios asks a.room r (sym c.in_err-form_fault.was ∙ c.form_fault.ensures) in
@@ -28,20 +28,20 @@ returns-in_err-form_fault c asks =
 pub invariant_of-pairs : goal.invariant_of-pairs
 invariant_of-pairs c =
     let x = contents_of c.args.lent in
-    let w = c.written.ensures.1 c.if-not-written.false in
+    let w = c.written.ensures.1 (search rules) in
     record { stretches = rw c.pair_rows.ensures (stretches x w) }
 
 pub stand_fault-requires : goal.stand_fault-requires
 stand_fault-requires c =
     let x = contents_of c.args.lent in
-    let w = c.written.ensures.1 c.if-not-written.false in
+    let w = c.written.ensures.1 (search rules) in
     rw c.group_rows.ensures (groups-rise x w)
 
 pub returns : goal.returns
 returns c asks =
     let a = c.args in
     let x = contents_of a.lent in
-    let w = c.written.ensures.1 c.if-not-written.false in
+    let w = c.written.ensures.1 (search rules) in
     let q = sym c.in_ok-form_fault.was ∙ c.form_fault.ensures in
     let read = form-whole x w a.asker a.groups a.asks.now.remove a.asks.now.deassign a.radios asks a.room
     (reply-none (first (form_tests a.asker a.groups a.asks.now.deassign a.radios)) q) a.asks.now c.requires in
