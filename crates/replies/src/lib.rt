@@ -6,6 +6,7 @@ use order::Itsi;
 use rows::{MAX_LETTERS, MAX_OWNERS};
 
 // What a show is answered with: the owners, rising, and the parameters, each value one up and 0 where absent.
+// Stays: fixed places for owners and letters with their counts beside them, as there is no heap.
 #[derive(Clone, Copy)]
 pub struct Shown {
     pub count: usize,

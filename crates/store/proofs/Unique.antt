@@ -1,14 +1,20 @@
 -- Any two results that a function's contract allows are equal. `Post` is a contract's claim as the checker reads it.
--- It makes none for a method of `Lent`: there two results beside which the contract's own clause holds are equal, in the program logic.
-use mathlib.Core.Path.{sym, ◌∙◌}
+use mathlib.Core.Path.{◌≡◌, sym, ◌∙◌}
 use denote.Param.Laws.{Laws, IsCopy}
 use denote.RattleType.{RattleType}
 use mir.Syntax.{Dict}
+use contract.Lifetimes.{Lfts}
+use borrow.Fn.Kinds.{Dens, res_t, ended_of}
+use denote.Triple.Clauses.{AtExit}
 use Rattle.std.specs.declared.clone.Clone as Clone
 use Rattle.store.specs.declared.places.Row as Row
 use Rattle.order.proofs.Unique.{Unique}
 use Rattle.store.proofs.form.Lent.roomy.Kinds as roomy-kinds
 use Rattle.store.proofs.form.Lent.roomy.Reads as roomy
+use Rattle.store.proofs.form.Lent.group_rows.Kinds as group-rows-kinds
+use Rattle.store.proofs.form.Lent.group_rows.Reads as group-rows
+use Rattle.store.proofs.form.Lent.pair_rows.Kinds as pair-rows-kinds
+use Rattle.store.proofs.form.Lent.pair_rows.Reads as pair-rows
 use Rattle.store.proofs.form.Lent.written.Kinds as written-kinds
 use Rattle.store.proofs.form.Lent.written.Reads as written
 use Rattle.store.proofs.places.stands.Kinds as stands-kinds
@@ -86,3 +92,14 @@ roomy-unique κs a r r' s s' p q = p ∙ sym q
 
 pub written-unique : Unique written-kinds.ps written-kinds.r written.Post
 written-unique κs a r r' s s' p q = p.0 ∙ sym q.0
+
+-- what the lent rows are
+module _ (κs : Lfts 1) (a : Dens κs group-rows-kinds.ps) (r r' : (res_t group-rows-kinds.r κs).Denot)
+    (s s' : AtExit (ended_of 1 group-rows-kinds.ps group-rows-kinds.r) κs) where
+  pub group-rows-unique : group-rows.Post κs a r s → group-rows.Post κs a r' s' → r.now ≡ r'.now
+  group-rows-unique p q = p ∙ sym q
+
+module _ (κs : Lfts 1) (a : Dens κs pair-rows-kinds.ps) (r r' : (res_t pair-rows-kinds.r κs).Denot)
+    (s s' : AtExit (ended_of 1 pair-rows-kinds.ps pair-rows-kinds.r) κs) where
+  pub pair-rows-unique : pair-rows.Post κs a r s → pair-rows.Post κs a r' s' → r.now ≡ r'.now
+  pair-rows-unique p q = p ∙ sym q

@@ -21,7 +21,7 @@ loop-i-preserved-then-groups-group c =
     let a = c.args in
     let l = c.loop-i in
     let t = turn-past a.groups.now a.pairs.now l.group l.i l.least _ (omega (arith, c.loop-i-test.true)) l.invariant.2
-    (omega arith) c.if-groups-group.true in
+    (omega arith) (λ e. omega (arith, c.if-groups-group.true)) in
     (search rules, search rules, t, l.invariant.3)
 
 -- a turn at a pair of the group goes on behind it, or stops
@@ -30,7 +30,7 @@ returns-then-not-pair_ok c =
     let a = c.args in
     let l = c.loop-i in
     let t = turn-next a.groups.now a.pairs.now l.group l.i l.least _ (omega (arith, c.loop-i-test.true)) l.invariant.2
-    (omega arith) c.if-groups-group.false c.pair_ok.result c.pair_ok.ensures.0 in
+    (omega arith) (omega (arith, c.if-groups-group.false)) c.pair_ok.result c.pair_ok.ensures.0 in
     (t.1 (ap not c.if-not-pair_ok.true), λ e. absurd (false≢true e))
 
 pub loop-i-preserved : goal.loop-i-preserved
@@ -38,7 +38,7 @@ loop-i-preserved c =
     let a = c.args in
     let l = c.loop-i in
     let t = turn-next a.groups.now a.pairs.now l.group l.i l.least _ (omega (arith, c.loop-i-test.true)) l.invariant.2
-    (omega arith) c.if-groups-group.false c.pair_ok.result c.pair_ok.ensures.0 in
+    (omega arith) (omega (arith, c.if-groups-group.false)) c.pair_ok.result c.pair_ok.ensures.0 in
     (search rules, search rules, t.0 (ap not c.if-not-pair_ok.false), below_more _ _ l.invariant.3 c.pair_ok.ensures.1)
 
 pub returns : goal.returns
