@@ -71,6 +71,7 @@ struct Output {
     ghost room: { filled + longest_reply ≤ length bytes },
 }
 
+// Stays: the runtime is passed down under the narrowest bounds, and kept in no struct.
 impl Output {
     // Answers a line behind what is filled, and writes all out where the next reply might not fit.
     fn answer(&mut self, rt: &(impl Print + Eprint), line: &[u8]) -> Result<(), Failed>
@@ -103,6 +104,7 @@ fn answer_lines<'a>(
     ensures { IfOk result (λ rest. rest.now ≡ unfinished text.now) }
 {
     let mut rest = text;
+    // Stays: no place is counted, and what is left of the text is handed back.
     while let Some(end) = line_end(rest) {
         let (line, behind) = rest.split_at(end);
         out.answer(rt, line)?;

@@ -5,10 +5,10 @@ use mathlib.Core.List.{List, [], ◌∷◌}
 use Prim.Native.Nat.{ℕ, ◌+◌, ◌-◌, ◌*◌, ◌/◌, ◌<◌, ◌≤◌}
 use lib.Dec.{leb, eqb, lit<}
 use lib.ListN.{length, get_or, take, drop, length-drop, get_or-append}
-use lib.Seq.{sets, length-sets, sets-eq, take_all, take_at, drop-append-le}
+use lib.Seq.{sets, sets-eq, take_all, take_at, drop-append-le}
 use native.Mathlib.Decide.{dec_lt}
 use native.Mathlib.Omega.{arith}
-use borrow.Author.Tests.{le-leb, lt-leb, eq-eqb, ne_eqb, eqb-true}
+use borrow.Author.Tests.{le-leb, lt-leb, ne_eqb, eqb-true}
 use Rattle.bits.specs.Bits.{bytes_for}
 use Rattle.layout.specs.declared.Kind.{Kind}
 use Rattle.layout.specs.declared.UnknownKind.{UnknownKind}
@@ -50,13 +50,6 @@ front_at : (l vs : List ℕ) (k : ℕ) → k < length vs → length vs ≤ lengt
 front_at l vs k h fits =
     let inside : 0 + length vs ≤ length l = omega arith in
     ap (λ bytes. get_or bytes k 0) (sets-eq vs l 0 inside) ∙ get_or-append vs (drop (0 + length vs) l) 0 k h
-
-module _ (bytes : List ℕ) (digits bits : ℕ) (count : bits ≡ bit_count bytes) where
-  pub length-fits : digits ≡ 6 + 2 * bytes_for bits → with_bits (kind_named (get_or bytes 0 0)) bits ≡ headed bytes digits
-  length-fits h = rw count (simp (eq-eqb _ _ (rw count at h)))
-
-  pub length-differs : (digits ≡ 6 + 2 * bytes_for bits → ⊥) → None ≡ headed bytes digits
-  length-differs h = simp (ne_eqb _ _ (rw count at h))
 
 -- the heading goes by the first three bytes
 headed-same : (bytes others : List ℕ) (digits : ℕ)
@@ -151,9 +144,6 @@ bytes_after [] = refl
 
 -- the frame's bytes stand in the buffer behind the heading's three
 module _ (line before after : List ℕ) (heading : Kind × ℕ) (room : length before ≡ 216) (unpacking : Unpacked line before after (Some heading)) where
-  pub still-long : length after ≡ 216
-  still-long = ap length unpacking.filled.0 ∙ simp length-sets room
-
   pub frame-bytes : take (length line / 2 - 3) (drop 3 after) ≡ bytes_from (split_of line)
   unfolding split_of
   frame-bytes =

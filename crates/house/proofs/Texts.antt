@@ -1,39 +1,46 @@
--- Laws of the text that goes out: digits put one after the other, and its length.
+-- Laws of the text that goes out, and its length.
 use mathlib.Core.Path.{◌≡◌, refl, sym, ap, ◌∙◌, subst}
-use mathlib.Core.Bool.{Bool, true, false, cond}
-use mathlib.Core.List.{List, [], ◌∷◌, ◌++◌}
-use Prim.Native.Nat.{ℕ, zero, suc, ◌+◌, ◌*◌, ◌/◌, ◌%◌, ◌<◌, ◌≤◌, min}
-use native.Mathlib.Nat.{zero-min, suc-min-suc, min-le_right}
-use native.Mathlib.Numerals.{add-one}
+use mathlib.Core.List.{List, [], ◌∷◌, ◌++◌, append_assoc}
+use Prim.Native.Nat.{ℕ, zero, suc, ◌+◌, ◌*◌, ◌≤◌, min}
+use native.Mathlib.Nat.{zero-add, zero-min, suc-min-suc, min-le_right}
 use native.Mathlib.Omega.{arith}
-use lib.Dec.{ltb}
-use lib.ListN.{length, get_or, set, take, drop, length-take}
-use lib.Seq.{sets, drop-cons, take-nil}
+use lib.ListN.{length, get_or, set, take, drop, length-take, take-append-drop}
+use lib.Seq.{sets, sets-eq, drop-append-le, length-take-le, take-nil}
 use borrow.Author.Tests.{le-leb}
+use Rattle.std.specs.Array.{IsFirstChunk}
 use Rattle.bits.specs.Bits.{bytes_for}
-use Rattle.refusal.specs.Number.{number_of}
 use Rattle.refusal.specs.declared.Refusal.{Refusal}
 use Rattle.layout.specs.declared.Kind.{Kind}
 use Rattle.refusal.specs.Reply.{refused, PutsRefusal}
 use Rattle.layout.specs.Kinds.{kind_number}
 use Rattle.house.specs.Hex.{digits_of}
-use Rattle.house.specs.Echo.{two_bytes, taken}
+use Rattle.house.specs.Echo.{two_bytes, within, taken}
 use Rattle.house.specs.Sent.{Sent}
 
 pub length_digits : (bytes : List ℕ) → length (digits_of bytes) ≡ 2 * length bytes
 length_digits [] = refl
 length_digits (byte ∷ bytes) = let rest = length_digits bytes in omega arith
 
--- one byte's digits put: what is left to put, from the next place on, makes the same text
-pub put-more : (out out' bytes : List ℕ) (i at : ℕ) → i < length bytes → out' ≡ sets out (at + 2 * i) (digits_of (get_or bytes i 0 ∷ []))
-    → sets out' (at + 2 * (i + 1)) (digits_of (drop (i + 1) bytes)) ≡ sets out (at + 2 * i) (digits_of (drop i bytes))
-put-more out out' bytes i at inside put =
-    let place : at + 2 * (i + 1) ≡ suc (suc (at + 2 * i)) = omega arith in
-    let byte : drop i bytes ≡ get_or bytes i 0 ∷ drop (i + 1) bytes = rw (drop-cons bytes i 0, add-one) in
-    rw (put, place, byte)
-
 pub sent : {text same before after : List ℕ} {count : ℕ} → text ≡ same → Sent same before after count → Sent text before after count
 sent {text} {same} {before} {after} {count} e s = subst (λ t. Sent t before after count) (sym e) s
+
+-- a text at the front of the first 433 bytes of a buffer is at the front of the buffer
+pub sent-front : {text before front after : List ℕ} {count : ℕ} → IsFirstChunk before front 433 → Sent text front after count
+    → Sent (within (length before) text) before (after ++ drop 433 before) count
+sent-front {text} {before} {front} {after} chunk s =
+    let room : 433 ≤ length before = chunk.enough in
+    let size : length (take 433 before) ≡ 433 = length-take-le 433 before room in
+    let fits : 0 + length text ≤ length (take 433 before) = omega (arith, s.counted, s.short) in
+    let rest : drop (length text) (take 433 before) ++ drop 433 before ≡ drop (length text) before =
+    sym (drop-append-le (length text) (take 433 before) (drop 433 before) (omega arith)) ∙ ap (drop (length text)) (take-append-drop 433 before) in
+    let laid : after ≡ text ++ drop (length text) (take 433 before) =
+    s.stored ∙ ap (λ l. sets l 0 text) chunk.same ∙ rw (zero-add) at (sets-eq text (take 433 before) 0 fits) in
+    let whole : within (length before) text ≡ text = rw (le-leb _ _ room) in
+    record {
+      counted = rw whole s.counted;
+      stored = rw (whole, laid, append_assoc, rest) (sym (rw (zero-add) at (sets-eq text before 0 (omega arith))));
+      short = s.short;
+    }
 
 -- a refusal that was put, where there was room
 pub told : {refusal : Refusal} {before after : List ℕ} {count : ℕ} → 433 ≤ length before → PutsRefusal refusal before after count
@@ -41,26 +48,6 @@ pub told : {refusal : Refusal} {before after : List ℕ} {count : ℕ} → 433 �
 told {refusal} {before} room p =
     let space : 3 ≤ length before = omega arith in
     record { counted = rw (le-leb _ _ space) at p.counted; stored = rw (le-leb _ _ space) at p.stored; short = omega (arith, p.short) }
-
--- R and the number, of one digit or two, and behind it a blank and the four digits of two bytes
-module _ (refusal : Refusal) (end : ℕ) (out out₁ : List ℕ) (put : Sent (refused refusal) out out₁ end) where
-  abbrev in_digits : Bool → List ℕ
-  in_digits b = cond b ((48 + number_of refusal) ∷ []) ((48 + number_of refusal / 10) ∷ (48 + number_of refusal % 10) ∷ [])
-
-  pub refused-short : end ≤ 3
-  refused-short = go (ltb (number_of refusal) 10) put
-    where
-      go : (b : Bool) → Sent (82 ∷ in_digits b) out out₁ end → end ≤ 3
-      go true s = omega (arith, s.counted)
-      go false s = omega (arith, s.counted)
-
-  pub refused-then : (out₂ : List ℕ) (high low : ℕ) → out₂ ≡ sets (set out₁ end 32) (end + 1) (digits_of (high ∷ low ∷ []))
-      → Sent (refused refusal ++ (32 ∷ digits_of (high ∷ low ∷ []))) out out₂ (end + 5)
-  refused-then out₂ high low behind = go (ltb (number_of refusal) 10) put
-    where
-      go : (b : Bool) → Sent (82 ∷ in_digits b) out out₁ end → Sent (82 ∷ in_digits b ++ (32 ∷ digits_of (high ∷ low ∷ []))) out out₂ (end + 5)
-      go true s = record { counted = rw s.counted; stored = rw (behind, s.stored, s.counted); short = omega (arith, s.counted) }
-      go false s = record { counted = rw s.counted; stored = rw (behind, s.stored, s.counted); short = omega (arith, s.counted) }
 
 -- as many bytes as there are, where more are asked for
 pub take-least : (bytes : List ℕ) (n : ℕ) → take (min n (length bytes)) bytes ≡ take n bytes

@@ -8,7 +8,7 @@ ghost use Rattle.house.specs.Heading.{headed, heading_of, split_of};
 ghost use Rattle.house.specs.Unpacked.{Unpacked};
 ghost use Rattle.bits.specs.Bits.{bytes_for};
 ghost use Rattle.layout.specs.Frame.{reading_of};
-ghost use Rattle.house.specs.Echo.{two_bytes, within, refused_at, taken, anew, answer_to, echo_within};
+ghost use Rattle.house.specs.Echo.{two_bytes, within, refused_at, taken, anew, answer_to, echo_line, echo_within};
 ghost use Rattle.house.specs.Sent.{Sent};
 
 use frame::{Kind, PLACES, read, write};
@@ -158,22 +158,28 @@ fn put_bytes(bytes: &[u8], out: &mut [u8], at: usize)
     }
 }
 
-// Answers R, the refusal's number and the bit at which the refused element begins; nothing where `out` has no room for the longest reply.
-pub fn refuse_at(refusal: Refusal, bit: usize, out: &mut [u8]) -> usize
-    ensures { Sent (within (length out.old) (refused_at refusal bit)) out.old out.new result }
+// Answers R, the refusal's number and the bit at which the refused element begins.
+fn told_at(refusal: Refusal, bit: usize, out: &mut [u8; REPLY]) -> usize
+    ensures { Sent (refused_at refusal bit) out.old out.new result }
 {
-    if out.len() < REPLY {
-        return 0;
-    }
     let end = refusal.put(out);
     out[end] = b' ';
     put_bytes(&two_bytes(bit), out, end + 1);
     end + 5
 }
 
+// The same at the front of `out`; nothing where that has no room for the longest reply.
+pub fn refuse_at(refusal: Refusal, bit: usize, out: &mut [u8]) -> usize
+    ensures { Sent (within (length out.old) (refused_at refusal bit)) out.old out.new result }
+{
+    match out.first_chunk_mut() {
+        Some(front) => told_at(refusal, bit, front),
+        None => 0,
+    }
+}
+
 // Answers A and the line of a frame whose bytes are the first of `bytes`.
-fn accept(kind: Kind, bits: usize, bytes: &[u8; FRAME_BYTES], out: &mut [u8]) -> usize
-    requires { 433 ≤ length out.old }
+fn accept(kind: Kind, bits: usize, bytes: &[u8; FRAME_BYTES], out: &mut [u8; REPLY]) -> usize
     ensures { Sent (taken kind bits (take (bytes_for bits) bytes.now)) out.old out.new result }
 {
     let count = bytes_for(bits).min(FRAME_BYTES);
@@ -185,8 +191,7 @@ fn accept(kind: Kind, bits: usize, bytes: &[u8; FRAME_BYTES], out: &mut [u8]) ->
 }
 
 // Answers with the line that the writer makes of a record.
-fn remake(kind: Kind, values: &[u32; PLACES], out: &mut [u8]) -> usize
-    requires { 433 ≤ length out.old }
+fn remake(kind: Kind, values: &[u32; PLACES], out: &mut [u8; REPLY]) -> usize
     ensures { Sent (anew kind values.now) out.old out.new result }
 {
     let mut bytes = [0u8; FRAME_BYTES];
@@ -197,13 +202,24 @@ fn remake(kind: Kind, values: &[u32; PLACES], out: &mut [u8]) -> usize
 }
 
 // Answers to what the reader finds in a frame.
-fn answer(kind: Kind, frame: &[u8], bits: usize, out: &mut [u8]) -> usize
-    requires { 433 ≤ length out.old }
+// Stays: `bits` beside the frame's bytes, as a slice does not tell how many bits of its last byte count.
+fn answer(kind: Kind, frame: &[u8], bits: usize, out: &mut [u8; REPLY]) -> usize
     ensures { Sent (answer_to kind (reading_of kind frame.now bits)) out.old out.new result }
 {
     match read(kind, frame, bits) {
         Ok(record) => remake(kind, &record.place, out),
-        Err(refused) => refuse_at(refused.refusal, refused.bit, out),
+        Err(refused) => told_at(refused.refusal, refused.bit, out),
+    }
+}
+
+// Answers a line.
+fn reply(line: &[u8], out: &mut [u8; REPLY]) -> usize
+    ensures { Sent (echo_line line.now) out.old out.new result }
+{
+    let mut bytes = [0u8; LINE_BYTES];
+    match unpack(line, &mut bytes) {
+        Some((kind, bits)) => answer(kind, &bytes[3..line.len() / 2], bits, out),
+        None => Refusal::BadLine.put(out),
     }
 }
 
@@ -211,12 +227,8 @@ fn answer(kind: Kind, frame: &[u8], bits: usize, out: &mut [u8]) -> usize
 pub fn echo_line(line: &[u8], out: &mut [u8]) -> usize
     ensures { Sent (echo_within (length out.old) line.now) out.old out.new result }
 {
-    if out.len() < REPLY {
-        return 0;
+    match out.first_chunk_mut() {
+        Some(front) => reply(line, front),
+        None => 0,
     }
-    let mut bytes = [0u8; LINE_BYTES];
-    let Some((kind, bits)) = unpack(line, &mut bytes) else {
-        return Refusal::BadLine.put(out);
-    };
-    answer(kind, &bytes[3..line.len() / 2], bits, out)
 }

@@ -22,6 +22,7 @@ pub trait Item {
 }
 
 // The letter of an order's kind: assign or deassign.
+// Stays: a row is of words, as the ledger's lent rows are, and its kind is any word.
 fn kind_letter(kind: u64) -> u8
     ensures { result ≡ kind_letter kind }
 {
@@ -29,6 +30,7 @@ fn kind_letter(kind: u64) -> u8
 }
 
 // An order's kind.
+// Stays: the kind is any word, as in kind_letter.
 fn put_kind(kind: u64, out: &mut [u8], at: usize) -> usize
     requires { at + 2 ≤ length out.old }
     ensures { Put (kind_text kind) out.old out.new at result }
