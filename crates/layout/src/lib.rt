@@ -61,6 +61,7 @@ impl TryFrom<u8> for Kind {
 
 // When an element is there: always, where a place holds a value, or by a chain of conditions, outermost first.
 // In a chain two places hold 1, and then a place holds a value; a chain of two has its first place twice.
+// Stays: none of its cases is an absence or a refusal, as an Option's or a Result's would be.
 #[derive(Clone, Copy)]
 pub enum When {
     Always,
@@ -76,6 +77,7 @@ pub enum Items {
 }
 
 // What an element is made of.
+// Stays: none of its cases is an absence or a refusal, as an Option's or a Result's would be.
 #[derive(Clone, Copy)]
 pub enum Shape {
     // A plain number of so many bits.
@@ -143,6 +145,7 @@ pub struct DefinePlaces {
 }
 
 // Those of a DEFINE-ACK record (table 20).
+// Stays: the names are the table's own; ASSIGNING-ACK has other elements at as many places.
 #[derive(Clone, Copy)]
 pub struct DefineAckPlaces {
     pub call_related: usize,
@@ -153,6 +156,7 @@ pub struct DefineAckPlaces {
 }
 
 // Those of a CANCEL record (table 33).
+// Stays: the names are the table's own; CANCEL-ACK and DEASSIGN have other elements at as many places.
 #[derive(Clone, Copy)]
 pub struct CancelPlaces {
     pub call_related: usize,
@@ -213,6 +217,7 @@ pub struct DeassignPlaces {
 }
 
 // Those of a DEASSIGNING-ACK record (table 26).
+// Stays: the names are the table's own.
 #[derive(Clone, Copy)]
 pub struct DeassigningAckPlaces {
     pub groups: usize,

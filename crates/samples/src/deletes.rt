@@ -67,6 +67,7 @@ fn longest_delete() -> Record {
 }
 
 // Table 22. Shortest: SNA 7, result 0.
+// Stays: what the kinds' samples have in common is `three`; what is left is each kind's own records and frames.
 pub fn delete_acks(rt: &impl Print) -> io::Result<()> {
     let shortest = frame::blank().list(delete_ack::GROUPS, &[Sna(7)]);
     three(
@@ -95,6 +96,7 @@ fn middle_delete_ack() -> Record {
 }
 
 // Ten groups, result 9.
+// Stays: the places are each kind's own, whatever their names have in common.
 fn longest_delete_ack() -> Record {
     frame::blank()
         .ten(delete_ack::GROUPS)

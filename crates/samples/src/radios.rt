@@ -8,6 +8,7 @@ use frame::{Kind, Record};
 use std::io;
 
 // Table 23. Shortest: SNA 7.
+// Stays: what the kinds' samples have in common is `three`; what is left is each kind's own records and frames.
 pub fn assigns(rt: &impl Print) -> io::Result<()> {
     let shortest = frame::blank().list(assign::GROUPS, &[Sna(7)]);
     three(

@@ -8,6 +8,7 @@ use frame::Record;
 use frame::place::*;
 
 // An identity, in one of the three forms.
+// Stays: three forms, none of them an absence or a refusal.
 #[derive(Clone, Copy)]
 pub enum Identity {
     Sna(u32),

@@ -1,19 +1,13 @@
 -- The fields of a sound shape: narrow ones, each the row that the definitions have.
 -- Assumes nothing.
-use Prim.Native.Nat.{ℕ, ◌*◌, ◌%◌, ◌^◌, ◌≤◌, ◌<◌}
-use mathlib.Core.Path.{◌≡◌, refl, ap, ◌∙◌}
+use Prim.Native.Nat.{ℕ, ◌%◌, ◌^◌, ◌≤◌, ◌<◌}
+use mathlib.Core.Path.{◌≡◌, refl, ap}
 use mathlib.Core.List.{[]}
-use native.Mathlib.Nat.{mod-eq_of_lt, one-mul, lt_of_le_of_lt}
+use native.Mathlib.Nat.{mod-eq_of_lt}
 use native.Mathlib.Omega.{arith}
 use lib.Pow.{pow_mono}
-use Rattle.layout.specs.declared.Items.{Items}
-use Rattle.layout.specs.declared.Items.TheVariants.{Numbers, Letters}
 use Rattle.layout.specs.Shape.{number}
-use Rattle.table.specs.Fields.{row_for, Narrow, number_field, choice_field, count_field}
-
--- one shifted by less than 32 is the power
-pub shifted : (w : ℕ) → w ≤ 31 → 1 * 2 ^ w % 4294967296 ≡ 2 ^ w
-shifted w h = ap (λ (n : ℕ). n % 4294967296) (one-mul (2 ^ w)) ∙ mod-eq_of_lt (lt_of_le_of_lt (pow_mono h) (omega arith))
+use Rattle.table.specs.Fields.{row_for, Narrow, number_field, choice_field}
 
 module _ (w : ℕ) (some : 0 < w) (few : w ≤ 24) where
   power : 2 ^ (w % 32) ≡ 2 ^ w
@@ -29,7 +23,3 @@ module _ (w : ℕ) (some : 0 < w) (few : w ≤ 24) where
 
   pub choice-narrow : (n : ℕ) → n < 256 → Narrow (choice_field w n)
   choice-narrow n h = record { some = some; few = omega arith; low = omega arith; plain = refl }
-
-pub count-narrow : (items : Items) → Narrow (count_field items)
-count-narrow Numbers = choice-narrow 4 (omega arith) (omega arith) 11 (omega arith)
-count-narrow Letters = choice-narrow 4 (omega arith) (omega arith) 16 (omega arith)

@@ -4,7 +4,7 @@ use Prim.Native.Nat.{ℕ, zero, suc, ◌+◌, ◌-◌, ◌*◌, ◌≤◌, ◌<�
 use mathlib.Core.Path.{◌≡◌, refl, ap, ap₂, sym, ◌∙◌, subst}
 use mathlib.Core.Bool.{true, false}
 use mathlib.Core.List.{List, [], ◌∷◌, ◌++◌, append_assoc, append-nil}
-use native.Mathlib.Nat.{add-zero, zero-add, suc-add, mul-suc, mul-zero, mul-le-mul_left}
+use native.Mathlib.Nat.{add-zero, zero-add, suc-add, mul-suc, mul-zero}
 use native.Mathlib.Numerals.{add-one}
 use native.Mathlib.Omega.{arith}
 use borrow.Author.Tests.{lt-leb, le-leb}
@@ -12,12 +12,11 @@ use lib.ListN.{length, take, get_or}
 use lib.Seq.{get_or-take}
 use Rattle.refusal.specs.declared.Refusal.TheVariants.{Reserved}
 use Rattle.layout.specs.Row.{Row, Condition, at_least, present}
-use Rattle.layout.specs.Shape.{choice, codes_of, least, times, item, stride, repeated, rows_of}
+use Rattle.layout.specs.Shape.{least, item, stride, repeated}
 use Rattle.table.specs.Sound.{Clear}
 use Rattle.layout.specs.declared.Items.{Items}
 use Rattle.layout.specs.declared.Items.TheVariants.{Numbers, Letters}
-use Rattle.layout.specs.declared.Shape.TheVariants as shape
-use Rattle.table.proofs.Walks.{Walk, goes_then, clear-after}
+use Rattle.table.proofs.Walks.{Walk, clear-after}
 use Rattle.table.proofs.Absent.{shut-item, passes, length-item, length-repeated}
 
 -- n items and k more
@@ -81,13 +80,6 @@ module _ (W : Walk) (items : Items) (from t : ℕ) (x : W.State) where
   unfolding repeated
   listing_none z = record { place = omega (arith, mul-zero (stride items)); goes = W.none from (t + 1) x; clear = z; size = refl }
 
-  -- the places of an item that is still to come
-  pub listing-room : (y : W.State) (at p i m : ℕ) → Listing W items from t x y at p i → i < m
-      → t + 1 + stride items * m ≤ length (W.values x) → p + stride items ≤ length (W.values y)
-  listing-room y at p i m now h room =
-      let step : stride items * i + stride items ≡ stride items * suc i = sym (mul-suc (stride items) i) in
-      omega (arith, now.place, now.size, mul-le-mul_left (stride items) h)
-
   module _ (y z : W.State) (at p i : ℕ) (r : W.Result) (now : Listing W items from t x y at p i)
       (f : W.Goes (item items (at_least t (least items i) ∷ []) p) at p y z r) where
     begins : p ≡ t + 1 + length (repeated items t (t + 1) 0 i)
@@ -119,20 +111,3 @@ module _ (W : Walk) (items : Items) (from t : ℕ) (x : W.State) where
         let rest = repeated items t (t + 1 + stride items * (i + 1)) (0 + (i + 1)) left in
         subst (λ (l : List Row). W.Goes l from (t + 1) x z r') (sym (repeated-split items t (t + 1) 0 (i + 1) left) ∙ ap (repeated items t (t + 1) 0) all)
         (W.stop first rest from (t + 1) x z r' s (subst (W.Goes first from (t + 1) x z) e so_far))
-
--- ---- the count, then the items
-module _ (W : Walk) (items : Items) (at p : ℕ) (x y : W.State) (c : Row) (e : c ≡ choice 4 (codes_of items) [])
-    (r₁ : W.Result) (f : W.Goes (c ∷ []) at p x y r₁) where
-  count : W.Goes (choice 4 (codes_of items) [] ∷ []) at p x y r₁
-  count = subst (λ (q : Row). W.Goes (q ∷ []) at p x y r₁) e f
-
-  pub list_on : (at₁ : ℕ) (z : W.State) (r : W.Result) → r₁ ≡ W.next at₁ → W.Goes (repeated items p (p + 1) 0 (times items)) at₁ (p + 1) y z r
-      → W.Goes (rows_of (shape.List items) [] p) at p x z r
-  unfolding rows_of
-  list_on at₁ z r d g = goes_then W (choice 4 (codes_of items) [] ∷ []) (repeated items p (p + 1) 0 (times items)) at at₁ p x y z r₁ r d count g
-
-  pub list-stop : (r : W.Result) → r₁ ≡ r → W.Stops r → W.Goes (rows_of (shape.List items) [] p) at p x y r
-  unfolding rows_of
-  list-stop r d s =
-      let first : List Row = choice 4 (codes_of items) [] ∷ [] in
-      W.stop first (repeated items p (p + 1) 0 (times items)) at p x y r s (subst (W.Goes first at p x y) d count)

@@ -1,7 +1,7 @@
 -- The rows of an element that is there, shape by shape.
 -- Assumes nothing.
 use Prim.Native.Nat.{ℕ, ◌+◌, ◌*◌, ◌^◌, ◌≤◌, ◌<◌}
-use mathlib.Core.Path.{◌≡◌, refl, ap, sym, ◌∙◌, subst}
+use mathlib.Core.Path.{◌≡◌, refl, ap, ◌∙◌, subst}
 use mathlib.Core.Bool.{true, ◌&&◌}
 use mathlib.Core.List.{List, [], ◌∷◌}
 use native.Mathlib.Omega.{arith}
@@ -13,8 +13,8 @@ use Rattle.layout.specs.declared.Items.TheVariants.{Numbers, Letters}
 use Rattle.layout.specs.declared.Shape.{Shape}
 use Rattle.layout.specs.declared.Shape.TheVariants.{Number, Choice, Identity, Ending, Missing, Nothing}
 use Rattle.layout.specs.declared.Shape.TheVariants as shape
-use Rattle.layout.specs.Row.{Row, Condition, is, nothing_since, present}
-use Rattle.layout.specs.Shape.{row, number, choice, No, codes_of, times, stride, identity, rows_of, span}
+use Rattle.layout.specs.Row.{Condition, is, nothing_since, present}
+use Rattle.layout.specs.Shape.{No, codes_of, times, stride, rows_of, span}
 use Rattle.table.specs.Sound.{sound}
 use Rattle.table.proofs.Walks.{Walk}
 use Rattle.layout.proofs.Tests.{left, right}
@@ -54,30 +54,6 @@ span-some (Nothing o) = omega arith
 pub list-room : (s : Shape) (items : Items) → s ≡ shape.List items → span s ≡ 1 + stride items * times items
 unfolding span
 list-room s items e = ap span e ∙ omega arith
-
--- a walk over a shape's rows, where the shape is told
-module _ (W : Walk) (s : Shape) (at p : ℕ) (x y : W.State) (r : W.Result) where
-  shape_row : (c : Row) → rows_of s [] p ≡ c ∷ [] → W.Goes (c ∷ []) at p x y r → W.Goes (rows_of s [] p) at p x y r
-  shape_row c e f = subst (λ (l : List Row). W.Goes l at p x y r) (sym e) f
-
-  pub shape-number : (w : ℕ) (c : Row) → s ≡ Number w → c ≡ number w [] → W.Goes (c ∷ []) at p x y r → W.Goes (rows_of s [] p) at p x y r
-  unfolding rows_of
-  shape-number w c e d f = shape_row c (ap (λ (t : Shape). rows_of t [] p) e ∙ ap (λ (y : Row). y ∷ []) (sym d)) f
-
-  pub shape-choice : (w n : ℕ) (c : Row) → s ≡ Choice w n → c ≡ choice w n [] → W.Goes (c ∷ []) at p x y r → W.Goes (rows_of s [] p) at p x y r
-  unfolding rows_of
-  shape-choice w n c e d f = shape_row c (ap (λ (t : Shape). rows_of t [] p) e ∙ ap (λ (y : Row). y ∷ []) (sym d)) f
-
-  pub shape-ending : s ≡ Ending → W.Goes (row 1 0 1 TypeThree 0 [] ∷ []) at p x y r → W.Goes (rows_of s [] p) at p x y r
-  unfolding rows_of
-  shape-ending e f = shape_row (row 1 0 1 TypeThree 0 []) (ap (λ (t : Shape). rows_of t [] p) e) f
-
-  pub shape-identity : s ≡ Identity → W.Goes (identity [] p) at p x y r → W.Goes (rows_of s [] p) at p x y r
-  unfolding rows_of
-  shape-identity e f = subst (λ (t : Shape). W.Goes (rows_of t [] p) at p x y r) (sym e) f
-
-  pub shape-list : (items : Items) → s ≡ shape.List items → W.Goes (rows_of (shape.List items) [] p) at p x y r → W.Goes (rows_of s [] p) at p x y r
-  shape-list items e f = subst (λ (t : Shape). W.Goes (rows_of t [] p) at p x y r) (sym e) f
 
 -- ---- under the element's condition
 -- the first row of each shape hangs on it; so what passes without it, passes under it where it holds

@@ -64,9 +64,6 @@ module _ (W : Walk) where
       → W.Goes b at₁ (p + length a) y z r → W.Goes (a ++ b) at p x z r
   goes_then a b at at₁ p x y z r₁ r e f g = W.join a b at at₁ p x y z r (subst (W.Goes a at p x y) e f) g
 
-  pub goes-stop : (a b : List Row) (at p : ℕ) (x y : W.State) (r₁ r : W.Result) → r₁ ≡ r → W.Stops r → W.Goes a at p x y r₁ → W.Goes (a ++ b) at p x y r
-  goes-stop a b at p x y r₁ r e h f = W.stop a b at p x y r h (subst (W.Goes a at p x y) e f)
-
   module _ (rows : List Row) (at at₁ p : ℕ) (x y : W.State) (r : W.Result) (t : r ≡ W.next at₁) (g : W.Goes rows at p x y r) where
     f : W.Goes rows at p x y (W.next at₁)
     f = subst (W.Goes rows at p x y) t g

@@ -53,6 +53,7 @@ pub const M_BIT: Field = Field {
 };
 
 // A list's count.
+// Stays: a value for each of two kinds, and no step to run; its theorem, count-field-unique, is over both.
 pub fn count_field(items: Items) -> Field
     ensures { result ≡ count_field items }
 {
@@ -67,7 +68,7 @@ pub fn number(width: u8) -> Field
     ensures { result ≡ number_field width }
 {
     Field {
-        width: width as usize,
+        width: usize::from(width),
         first: 0,
         codes: 1u32 << (width % 32),
         refusal: Refusal::Reserved,
@@ -79,9 +80,9 @@ pub fn choice(width: u8, codes: u8) -> Field
     ensures { result ≡ choice_field width codes }
 {
     Field {
-        width: width as usize,
+        width: usize::from(width),
         first: 1,
-        codes: codes as u32,
+        codes: u32::from(codes),
         refusal: Refusal::Reserved,
     }
 }

@@ -6,10 +6,11 @@ use crate::place::{IDENTITY_PLACES, NAME_PLACES, NUMBERS_PLACES};
 use layout::{Items, Shape};
 
 // What a list's count holds, at least, where item `i` is there.
+// Stays: a value for each of two kinds, and no step to run; its theorem, least-for-unique, is over both.
 pub fn least_for(items: Items, i: u8) -> u32
     ensures { result ≡ least items i }
 {
-    let item = i as u32;
+    let item = u32::from(i);
     match items {
         Items::Numbers => if item < 2 { item + 1 } else { item + 2 },
         Items::Letters => item + 1,
@@ -17,6 +18,7 @@ pub fn least_for(items: Items, i: u8) -> u32
 }
 
 // The places that an item takes.
+// Stays: a value for each of two kinds, and no step to run; its theorem, stride-of-unique, is over both.
 pub fn stride_of(items: Items) -> usize
     ensures { result ≡ stride items }
 {
@@ -27,6 +29,7 @@ pub fn stride_of(items: Items) -> usize
 }
 
 // How many items a list has at most.
+// Stays: a value for each of two kinds, and no step to run; its theorem, times-of-unique, is over both.
 pub fn times_of(items: Items) -> u8
     ensures { result ≡ times items }
 {

@@ -57,6 +57,7 @@ pub const ACTION_TYPE_BITS: usize = 4;
 pub const HEAD_BITS: usize = SS_TYPE_BITS + ACTION_TYPE_BITS;
 
 // The action type of a kind.
+// Stays: a code of the head, which two kinds share, and so neither a discriminant nor a conversion.
 pub fn action_type(kind: Kind) -> u32
     ensures { result ≡ action_type kind }
 {

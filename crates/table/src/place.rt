@@ -44,6 +44,7 @@ pub const NUMBERS_PLACES: usize = 1 + 10 * IDENTITY_PLACES;
 pub const NAME_PLACES: usize = 1 + 16;
 
 // The places of every kind.
+#[tactic(auto, unfolding(layout::specs::Kinds::kind_places, layout::specs::Shape::span, layout::specs::Shape::spans))]
 pub fn kind_places() -> KindPlaces
     ensures { result ≡ kind_places }
 {

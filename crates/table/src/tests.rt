@@ -13,12 +13,7 @@ pub const IF_NO: u8 = NO as u8;
 pub fn holds(values: &[u32], place: u8, value: u8) -> bool
     ensures { result ≡ eqb (get_or values.now place 0) value }
 {
-    let at = place as usize;
-    if at < values.len() {
-        values[at] == value as u32
-    } else {
-        0 == value
-    }
+    values.get(usize::from(place)).copied().unwrap_or(0) == u32::from(value)
 }
 
 // Whether an element is there. In a chain the last condition is tested first: where an element is not there, it is mostly that which fails.
@@ -39,5 +34,9 @@ pub fn there(values: &[u32], when: When) -> bool
 pub fn nothing_since(values: &[u32], o: u8, to: usize) -> bool
     ensures { result ≡ all (λ v. eqb v 0) (drop (suc o) (take to values.now)) }
 {
-    values.iter().take(to).skip(o as usize + 1).all(|&v| v == 0)
+    values
+        .iter()
+        .take(to)
+        .skip(usize::from(o) + 1)
+        .all(|&v| v == 0)
 }
