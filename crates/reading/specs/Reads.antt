@@ -1,8 +1,9 @@
 -- Reading, part way: what the reader's parts promise of the rows that they go over.
 -- Assumes nothing.
-use Rattle.std.specs.Prelude.{ℕ, ◌+◌, ◌-◌, ◌≡◌, Bool, true, false, List, ◌++◌, length, take, drop, Result, Ok, Err, OnOk}
+use Rattle.std.specs.Prelude.{ℕ, ◌+◌, ◌-◌, ◌≡◌, Bool, true, false, List, ◌++◌, length, take, drop, Result, Ok, Err, OnOk, ⊤}
 use Rattle.refusal.specs.declared.Refusal.{Refusal}
 use Rattle.bits.specs.Bits.{bits_of}
+use Rattle.layout.specs.declared.Record.{Record}
 use Rattle.layout.specs.declared.Refused.{Refused}
 use Rattle.layout.specs.Row.{Row}
 use Rattle.layout.specs.Read.{Answer, refused, read_rows}
@@ -32,6 +33,11 @@ pub record Reads (rows : List Row) (bits : List Bool) (at p : ℕ) (vs vs' : Lis
 pub record Fills (rows : List Row) (bits : List Bool) (at : ℕ) (x y : Filling) (s : Result ℕ Refused) : Type 0 where
   pub reads : Reads rows bits at x.place x.values y.values s
   pub moved : OnOk s (y.place ≡ x.place + length rows)
+
+-- what a record that was filled comes to, by how its reading ended
+abbrev pub recorded : List ℕ → Result ⊤ Refused → Result Record Refused
+recorded values (Ok _) = Ok (record { place = values })
+recorded values (Err r) = Err r
 
 -- the refusal of the element that begins one bit before, if there is a reason
 abbrev pub barred_at : Bool → Refusal → ℕ → Result ℕ Refused

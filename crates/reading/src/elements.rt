@@ -1,6 +1,6 @@
 // Reading a table's elements, one after the other. An element that is not there costs one test.
 use crate::parts::{Filling, Frame, refused};
-use layout::{Element, Kind, PLACES, Record, Refused, Shape};
+use layout::{Element, Kind, PLACES, Refused, Shape};
 use refusal::Refusal;
 use table::fields::{M_BIT, choice, number};
 use table::items::places_of;
@@ -26,12 +26,12 @@ impl Filling {
 }
 
 impl<'a> Frame<'a> {
-    ghost use Rattle.std.specs.Prelude.{◌≡◌, [], ◌+◌, ◌≤◌, T, drop};
+    ghost use Rattle.std.specs.Prelude.{◌≡◌, [], ◌+◌, ◌≤◌, T, drop, replicate};
     ghost use Rattle.layout.specs.Frame.{rows, as_reading};
     ghost use Rattle.layout.specs.Read.{read_rows};
     ghost use Rattle.layout.specs.Shape.{conditions_of, rows_of, span};
     ghost use Rattle.table.specs.Sound.{sound};
-    ghost use Rattle.reading.specs.Reads.{bits_in, Fills};
+    ghost use Rattle.reading.specs.Reads.{bits_in, recorded, Fills};
 
     // The rows of a shape that is there.
     fn shape(self, at: usize, into: &mut Filling, shape: Shape) -> Result<usize, Refused>
@@ -70,18 +70,18 @@ impl<'a> Frame<'a> {
         }
     }
 
-    // The elements of a kind's table from the bit `from` on, and the end.
-    pub fn elements(self, kind: Kind, from: usize) -> Result<Record, Refused>
-        ensures { result ≡ as_reading (read_rows (rows kind) [] from (drop from (bits_in self.entry))) }
+    // The elements of a kind's table from the bit `from` on, and the end, into a record of which no row is done.
+    pub fn elements(self, kind: Kind, from: usize, into: &mut Filling) -> Result<(), Refused>
+        requires { (into.old.values ≡ replicate PLACES 0) × (into.old.place ≡ 0) }
+        ensures { recorded into.new.values result ≡ as_reading (read_rows (rows kind) [] from (drop from (bits_in self.entry))) }
     {
-        let mut into = Filling::new();
         let mut at = from;
         for element in table_of(kind) {
-            at = self.element(at, &mut into, *element)?;
+            at = self.element(at, into, *element)?;
         }
         if at < self.bits {
             return Err(refused(Refusal::BitsRemain, at));
         }
-        Ok(Record { place: into.values })
+        Ok(())
     }
 }

@@ -17,7 +17,7 @@ use Rattle.layout.specs.Shape.{conditions_of, rows_of, span}
 use Rattle.table.specs.Sound.{sound}
 use Rattle.table.proofs.Absent.{length-shape}
 use Rattle.table.proofs.TableLaws.{element-room, element-sound}
-use Rattle.reading.specs.Reads.{bits_in, Reads}
+use Rattle.reading.specs.Reads.{bits_in, recorded, Reads}
 use Rattle.reading.proofs.ReadLaws.{whole_length}
 use Rattle.reading.proofs.FillLaws.{left_by}
 use Rattle.reading.proofs.Going.{Going, going-none, turn-next, turn-stop, going-over, going_end}
@@ -28,7 +28,7 @@ abbrev past : Element
 past = (Always, Number 0)
 
 pub loop-element-init : goal.loop-element-init
-loop-element-init c = rw (c.new-into.ensures.0, c.new-into.ensures.1) (going-none c.args.kind _ c.args.from)
+loop-element-init c = rw (c.requires.0, c.requires.1) (going-none c.args.kind _ c.args.from)
 
 pub element-requires : goal.element-requires
 element-requires c =
@@ -47,7 +47,7 @@ returns-in_err-at c =
     let inside : l.element-index < length (table_of c.args.kind) = omega (arith, ap length list, c.loop-element-test.true) in
     let found = subst (λ (es : List Element). Reads (rows_of (get_or es l.element-index past).1 (conditions_of (get_or es l.element-index past).0) l.into.place)
     (bits_in c.args.self) l.at l.into.place l.into.values c.element.new.into.values c.element.result) list c.element.ensures.reads in
-    left_by c.from_residual.result c.from_residual.ensures.1
+    ap (recorded _) (left_by c.from_residual.result c.from_residual.ensures.1)
     ∙ ap as_reading (sym (turn-stop l.invariant past inside found c.in_err-at.was))
 
 pub loop-element-preserved : goal.loop-element-preserved
