@@ -1,6 +1,5 @@
 -- Laws of the lent storage.
 pub mod Rows
-pub mod Storage
 pub mod HalvingLaws
 pub mod PlaceLaws
 pub mod Parting
