@@ -6,6 +6,7 @@ use mathlib.Core.Option.{Option, none, some}
 use Prim.Native.Nat.{ℕ}
 use native.Mathlib.Omega.{arith}
 use lib.ListN.{length}
+use Rattle.std.specs.Prelude.{Result, Ok}
 use Rattle.refusal.specs.declared.Refusal.{Refusal}
 use Rattle.layout.specs.declared.Record.{Record}
 use Rattle.rules.specs.Lists.{mem}
@@ -23,14 +24,11 @@ use Rattle.order.specs.Numbers.{radio_number, asked_number}
 use Rattle.order.specs.Walks.{onto}
 use Rattle.store.specs.Storage.{Rows, Contents, placing}
 use Rattle.order.specs.Lists.{numbers_of}
-use Rattle.replies.specs.Sending.{sent_reply}
 use Rattle.replies.specs.Listing.{entry_row, members_of}
 use Rattle.order.specs.declared.GroupAsked.{GroupAsked}
 use Rattle.order.specs.declared.Itsi.{Itsi}
-use Rattle.replies.specs.declared.Sent.TheVariants.{Orders}
-use Rattle.replies.specs.declared.Members.{Members}
-use Rattle.replies.specs.declared.Members.TheVariants.{Radios}
 use Rattle.replies.specs.declared.Shown.{Shown}
+use Rattle.replies.specs.Orders.{answered}
 use Rattle.demand.specs.Arguments.{Deletion, deletion_order, deletion_step}
 use Rattle.demand.specs.Calls.{Defines, Deletes, Lists, Shows}
 use Rattle.demand.specs.Runs.{Kept, defined, deleted}
@@ -38,14 +36,14 @@ use Rattle.demand.proofs.Demand.{demand}
 
 -- two runs with one history, whatever lay in the lent places before them and wherever their rows lie
 module _ {c c' : Contents} {h : History} (k : Kept c h) (k' : Kept c' h) {asker : Itsi} {asked : GroupAsked} where
-  pub same_lists : {room listed listed' : Rows} {reply reply' : Members} → Lists asker asked room listed c reply → Lists asker asked room listed' c' reply'
+  pub same_lists : {room listed listed' : Rows} {reply reply' : Result ℕ Refusal} → Lists asker asked room listed c reply → Lists asker asked room listed' c' reply'
       → (reply ≡ reply') × (listed ≡ listed')
   same_lists e e' =
       let a = (demand k).lists e in
       let b = (demand k').lists e' in
       (a.0 ∙ sym b.0, a.1 ∙ sym b.1)
 
-  pub same-shows : {reply reply' : Shown} → Shows asker asked c reply → Shows asker asked c' reply' → reply ≡ reply'
+  pub same-shows : {reply reply' : Result Shown Refusal} → Shows asker asked c reply → Shows asker asked c' reply' → reply ≡ reply'
   same-shows e e' = (demand k).shows e ∙ sym ((demand k').shows e')
 
 -- ---- a group deleted and made again ----
@@ -54,20 +52,20 @@ defined-by : (asker : Number) (places : List ℕ) → (define_of asker places).a
 unfolding define_of
 defined-by asker places = refl
 
-pub sent-none : (o : Option Refusal) (n k : ℕ) → Orders n ≡ sent_reply o k → o ≡ none
+pub sent-none : (o : Option Refusal) (n k : ℕ) → Ok n ≡ answered o k → o ≡ none
 sent-none none n k e = refl
 sent-none (some r) n k e = let z : ◌≡◌ {A = ℕ} 0 1 = cc in absurd (omega arith)
 
 -- an accepted delete takes the group away, an accepted define without radios makes it again: the list of the define's asker
 -- is empty, and leaves its room as it was, whatever radios the group had
 pub again-empty : {c₀ c₁ c₂ : Contents} {h : History} → Kept c₀ h
-    → {d : Deletion} {space sent : Rows} {n : ℕ} → Deletes d space sent c₀ c₁ (Orders n) → d.remove ≡ true
-    → {maker : Itsi} {values : Record} {space' sent' : Rows} {n' : ℕ} → Defines maker values space' sent' c₁ c₂ (Orders n')
-    → {asked : GroupAsked} {room listed : Rows} {reply : Members} → Lists maker asked room listed c₂ reply
+    → {d : Deletion} {space sent : Rows} {n : ℕ} → Deletes d space sent c₀ c₁ (Ok n) → d.remove ≡ true
+    → {maker : Itsi} {values : Record} {space' sent' : Rows} {n' : ℕ} → Defines maker values space' sent' c₁ c₂ (Ok n')
+    → {asked : GroupAsked} {room listed : Rows} {reply : Result ℕ Refusal} → Lists maker asked room listed c₂ reply
     → let g = asked_number maker asked in
     let o = define_of (radio_number maker) values.place in
     wide_number g ≡ false → mem (key g) (numbers d.asker.1 (numbers_of d.named)) ≡ true → mem (key g) (define_groups o) ≡ true → o.radios ≡ none
-    → (reply ≡ Radios 0) × (listed ≡ room)
+    → (reply ≡ Ok 0) × (listed ≡ room)
 again-empty {h = h} k {d} {space} {n = n} a removes {maker} {values} {space'} {n' = n'} b {asked} {room} e narrow gone made empty =
     let o = define_of (radio_number maker) values.place in
     let g = asked_number maker asked in

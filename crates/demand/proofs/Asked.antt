@@ -8,6 +8,7 @@ use lib.ListN.{length, replicate, length-replicate}
 use lib.Seq.{set-get_or}
 use denote.MutBor.{MutBor}
 use denote.Ref.{Bor}
+use Rattle.std.specs.Prelude.{Ok}
 use Rattle.refusal.specs.declared.Refusal.{Refusal}
 use Rattle.refusal.specs.declared.Refusal.TheVariants.{NotWritten}
 use Rattle.layout.specs.declared.Record.{Record}
@@ -27,12 +28,11 @@ use Rattle.order.specs.Steps.{handover_of, handover_step, define_step}
 use Rattle.order.specs.Walks.{onto}
 use Rattle.store.specs.Storage.{Rows, Contents, contents, pair_row, pairs_of, group_count, pair_count, placing, ledger_of, laid}
 use Rattle.store.specs.Form.{roomy, Sound}
-use Rattle.replies.specs.Orders.{reply_of, verdict, contents_after}
-use Rattle.replies.specs.Sending.{order_row, sent_on, sent_reply}
+use Rattle.replies.specs.Orders.{answered as replied, reply_of, verdict, contents_after}
+use Rattle.replies.specs.Sending.{order_row, sent_on}
 use Rattle.order.specs.declared.Itsi.{Itsi}
 use Rattle.order.specs.declared.Identity.{Identity}
 use Rattle.order.specs.declared.Numbers.{Numbers}
-use Rattle.replies.specs.declared.Reply.TheVariants.{Done}
 use Rattle.replies.proofs.Orders.{refused-stays, taken-after, head-counts, count-groups, count-pairs, pairs-stay}
 use Rattle.making.proofs.Standing.{formed}
 use Rattle.answering.proofs.Answered.{turned-laid, ticked-laid}
@@ -56,7 +56,7 @@ lends c = record { head = lend c.head; groups = lend c.groups; pairs = lend c.pa
 
 defines : (asker : Itsi) (values : Record) (room : Rows) (c : Contents)
     → let s = define_step asker values.place (length room) in
-    Defines asker values room (onto (map order_row (sent_on c s)) room) c (contents_after c s) (sent_reply (verdict c s) (length (sent_on c s)))
+    Defines asker values room (onto (map order_row (sent_on c s)) room) c (contents_after c s) (replied (verdict c s) (length (sent_on c s)))
 defines asker values room c =
     let s = define_step asker values.place (length room) in
     let to = lends (contents_after c s) in
@@ -73,7 +73,7 @@ defines asker values room c =
     }
 
 deletes : (d : Deletion) (room : Rows) (c : Contents) → let s = deletion_step d (length room) in
-    Deletes d room (onto (map order_row (sent_on c s)) room) c (contents_after c s) (sent_reply (verdict c s) (length (sent_on c s)))
+    Deletes d room (onto (map order_row (sent_on c s)) room) c (contents_after c s) (replied (verdict c s) (length (sent_on c s)))
 deletes d room c =
     let s = deletion_step d (length room) in
     let to = lends (contents_after c s) in
@@ -168,7 +168,7 @@ ticks c w =
       ends = e;
     }
 
-empties : (c : Contents) → roomy c ≡ true → Empties c (laid empty c) Done
+empties : (c : Contents) → roomy c ≡ true → Empties c (laid empty c) (Ok tt)
 empties c r = record {
   lifetimes = ([], ([], ([], tt)));
   lent = lends c;

@@ -2,6 +2,8 @@
 use mathlib.Core.Path.{◌≡◌, sym, ap, subst, ◌∙◌}
 use mathlib.Core.List.{List, map}
 use lib.ListN.{length}
+use Rattle.std.specs.Prelude.{ℕ, Result}
+use Rattle.refusal.specs.declared.Refusal.{Refusal}
 use Rattle.rules.specs.Order.{Step, tick}
 use Rattle.rules.specs.Outgoing.{Outgoing}
 use Rattle.rules.specs.Replies.{Listing}
@@ -18,24 +20,23 @@ use Rattle.order.specs.Numbers.{radio_number, asked_number}
 use Rattle.order.specs.Steps.{handover_step, define_step}
 use Rattle.order.specs.Walks.{onto}
 use Rattle.store.specs.Storage.{Rows, Contents}
-use Rattle.replies.specs.Orders.{reply_of}
-use Rattle.replies.specs.Sending.{order_row, sent_reply}
+use Rattle.replies.specs.Orders.{answered, reply_of}
+use Rattle.replies.specs.Sending.{order_row}
 use Rattle.replies.specs.Listing.{entry_row, members_of}
 use Rattle.replies.specs.Showing.{shown_of}
-use Rattle.replies.specs.declared.Sent.{Sent}
 use Rattle.demand.specs.Arguments.{deletion_step, answering_step}
 use Rattle.demand.specs.Runs.{Kept}
 use Rattle.demand.specs.Before.{old, AsBefore}
 use Rattle.demand.proofs.Demand.{demand}
 
 -- what goes out, and the reply that tells it, by the history and by the old layout
-sent-before : (h : History) (s : Step) (room rows : Rows) (reply : Sent)
-    → (reply ≡ sent_reply (refusal_in h s) (length (sent_in h s))) × (rows ≡ onto (map order_row (sent_in h s)) room)
-    → (reply ≡ sent_reply (refused by_arrival (old h) s) (length (sent by_arrival (old h) s))) × (rows ≡ onto (map order_row (sent by_arrival (old h) s)) room)
+sent-before : (h : History) (s : Step) (room rows : Rows) (reply : Result ℕ Refusal)
+    → (reply ≡ answered (refusal_in h s) (length (sent_in h s))) × (rows ≡ onto (map order_row (sent_in h s)) room)
+    → (reply ≡ answered (refused by_arrival (old h) s) (length (sent by_arrival (old h) s))) × (rows ≡ onto (map order_row (sent by_arrival (old h) s)) room)
 sent-before h s room rows reply p =
     let r = sym (refusal-agree by_arrival by-arrival h s) in
     let o = sym (sent-agree by_arrival by-arrival h s) in (
-      p.0 ∙ (λ i. sent_reply (r i) (length (o i))),
+      p.0 ∙ (λ i. answered (r i) (length (o i))),
       p.1 ∙ ap (λ (l : List Outgoing). onto (map order_row l) room) o,
     )
 

@@ -6,6 +6,7 @@ use mathlib.Core.Option.{Option, some}
 use Prim.Native.Nat.{ℕ, ◌≤◌}
 use lib.ListN.{length, take, replicate, length-map}
 use lib.Seq.{take-append_seam}
+use Rattle.std.specs.Prelude.{Result, ⊤}
 use Rattle.refusal.specs.declared.Refusal.{Refusal}
 use Rattle.refusal.specs.declared.Refusal.TheVariants.{NotWritten}
 use Rattle.rules.specs.Lists.{any, mem}
@@ -26,16 +27,13 @@ use Rattle.rules.proofs.Demand.{list-exact, show-exact, exact-narrow, owner-narr
 use Rattle.order.specs.Numbers.{radio_number, group_number, radio_at, asked_group, asked_number}
 use Rattle.order.specs.Walks.{onto}
 use Rattle.store.specs.Storage.{Rows, Contents, placing}
-use Rattle.replies.specs.Orders.{reply_of, verdict, Replies}
-use Rattle.replies.specs.Sending.{order_row, sent_on, sent_reply, Sends}
-use Rattle.replies.specs.Listing.{entry_row, list_on, members_reply, members_of}
+use Rattle.replies.specs.Orders.{answered, reply_of, verdict, Replies}
+use Rattle.replies.specs.Sending.{order_row, sent_on, Sends}
+use Rattle.replies.specs.Listing.{entry_row, list_on, members_of}
 use Rattle.replies.specs.Showing.{show_on, nobody, shown_as, shown_of}
 use Rattle.order.specs.declared.Gtsi.{Gtsi}
 use Rattle.order.specs.declared.Itsi.{Itsi}
 use Rattle.order.specs.declared.GroupAsked.{GroupAsked}
-use Rattle.replies.specs.declared.Reply.{Reply}
-use Rattle.replies.specs.declared.Sent.{Sent}
-use Rattle.replies.specs.declared.Members.{Members}
 use Rattle.replies.specs.declared.Shown.{Shown}
 use Rattle.demand.specs.Calls.{Lists, Shows}
 use Rattle.demand.specs.Runs.{Kept}
@@ -67,13 +65,13 @@ module _ {c : Contents} {h : History} (k : Stands c h) where
   shown-alike asker group = λ i. cond (k.sound.form i) (show (k.says i) (radio_number asker) (group_number group))
       (record { refused = some NotWritten; owners = []; parameters = no_parameters })
 
-  replies-alike : {s : Step} {c' : Contents} {reply : Reply} → Replies s c c' reply → reply ≡ reply_of (refusal_in h s)
+  replies-alike : {s : Step} {c' : Contents} {reply : Result ⊤ Refusal} → Replies s c c' reply → reply ≡ reply_of (refusal_in h s)
   replies-alike {s} e = e.replies ∙ ap reply_of (judged-alike s)
 
-  sends-alike : {step : ℕ → Step} {room out : Rows} {c' : Contents} {reply : Sent} → Sends step room out c c' reply
-      → let s = step (length room) in (reply ≡ sent_reply (refusal_in h s) (length (sent_in h s))) × (out ≡ onto (map order_row (sent_in h s)) room)
+  sends-alike : {step : ℕ → Step} {room out : Rows} {c' : Contents} {reply : Result ℕ Refusal} → Sends step room out c c' reply
+      → let s = step (length room) in (reply ≡ answered (refusal_in h s) (length (sent_in h s))) × (out ≡ onto (map order_row (sent_in h s)) room)
   sends-alike {step} {room} e = let s = step (length room) in (
-    e.replies ∙ (λ i. sent_reply (judged-alike s i) (length (sent-alike s i))),
+    e.replies ∙ (λ i. answered (judged-alike s i) (length (sent-alike s i))),
     e.sends ∙ (λ i. onto (map order_row (sent-alike s i)) room),
   )
 
@@ -84,14 +82,14 @@ module _ {c : Contents} {h : History} (k : Stands c h) where
     abbrev of : Number
     of = asked_number asker asked
 
-    lists-alike : {room listed : Rows} {reply : Members} → Lists asker asked room listed c reply
+    lists-alike : {room listed : Rows} {reply : Result ℕ Refusal} → Lists asker asked room listed c reply
         → let l = list (run placing h) by of (length room) in (reply ≡ members_of l) × (listed ≡ onto (map entry_row l.entries) room)
     lists-alike {room} e =
         let s = list-says e in
         let l = listed-alike asker (asked_group asker asked) (length room) in
         (s.0 ∙ ap members_of l, s.1 ∙ (λ i. onto (map entry_row (l i).entries) room))
 
-    lists-exactly : {room listed : Rows} {reply : Members} → Lists asker asked room listed c reply → Owns h by of
+    lists-exactly : {room listed : Rows} {reply : Result ℕ Refusal} → Lists asker asked room listed c reply → Owns h by of
         → length (radios_in h (key of)) ≤ length room → ListsExactly h of room listed reply
     lists-exactly {room} {listed} e o n =
         let l = (list (run placing h) by of (length room)).entries in
@@ -101,20 +99,20 @@ module _ {c : Contents} {h : History} (k : Stands c h) where
         ap (take (length l)) s.1 ∙ ap (λ (n : ℕ). take n (onto (map entry_row l) room)) (sym (length-map l entry_row)) ∙ take-append_seam (map entry_row l) _ in
         record {
           entries = l;
-          counts = s.0 ∙ ap (λ (r : Option Refusal). members_reply r (length l)) x.0;
+          counts = s.0 ∙ ap (λ (r : Option Refusal). answered r (length l)) x.0;
           rows = s.1;
           exact = x.1;
           says = λ n w. ap (λ (rows : Rows). state_in rows n) front ∙ state-told n w l (exact-narrow h (key of) l x.1) ∙ x.1.says (key n);
         }
 
-    shows_alike : {reply : Shown} → Shows asker asked c reply → reply ≡ shown_of (show (run placing h) by of)
+    shows_alike : {reply : Result Shown Refusal} → Shows asker asked c reply → reply ≡ shown_of (show (run placing h) by of)
     shows_alike e = show-says e ∙ ap shown_of (shown-alike asker (asked_group asker asked))
 
-    shows-exactly : {reply : Shown} → Shows asker asked c reply → Owns h by of → ShowsExactly h of reply
+    shows-exactly : {reply : Result Shown Refusal} → Shows asker asked c reply → Owns h by of → ShowsExactly h of reply
     shows-exactly e o =
         let s = show (run placing h) by of in
         let x = show-exact placing by_number_lem h by of o in
-        let holds = shows_alike e ∙ ap (λ (r : Option Refusal). shown_as r s.owners s.parameters) x.0 in
+        let holds = shows_alike e ∙ ap (λ (r : Option Refusal). answered r (shown_as s.owners s.parameters)) x.0 in
         let front = ap (λ (n : ℕ). take n (onto (map radio_at s.owners) (replicate max_owners nobody))) (sym (length-map s.owners radio_at))
         ∙ take-append_seam (map radio_at s.owners) _ in
         let narrow : (a : ℕ) → mem a s.owners ≡ true → wide_key a ≡ false =
@@ -124,7 +122,7 @@ module _ {c : Contents} {h : History} (k : Stands c h) where
           parameters = s.parameters;
           holds = holds;
           tells = x.1;
-          says = λ n w. ap (λ (r : Shown). shown_owner r n) holds ∙ ap (any (λ (o : Itsi). same_number n (radio_number o))) front
+          says = λ n w. ap (λ (r : Result Shown Refusal). shown_owner r n) holds ∙ ap (any (λ (o : Itsi). same_number n (radio_number o))) front
               ∙ owner-told n w s.owners narrow ∙ x.1.owns (key n);
         }
 

@@ -4,6 +4,8 @@ use mathlib.Core.Bool.{true, false}
 use mathlib.Core.Option.{Option, none, some}
 use Prim.Native.Nat.{ℕ}
 use lib.ListN.{length, take}
+use Rattle.std.specs.Prelude.{Result, Ok}
+use Rattle.refusal.specs.declared.Refusal.{Refusal}
 use Rattle.rules.specs.Lists.{present}
 use Rattle.rules.specs.Number.{Number, key, wide_number}
 use Rattle.rules.specs.Mark.{Mark, leaving}
@@ -16,8 +18,6 @@ use Rattle.rules.proofs.Demand.{told-present}
 use Rattle.rules.proofs.Anew.{gone-bare}
 use Rattle.rules.proofs.Leaving.{leaves_all, pair_left}
 use Rattle.store.specs.Storage.{Rows, Contents}
-use Rattle.replies.specs.declared.Members.{Members}
-use Rattle.replies.specs.declared.Sent.TheVariants.{Orders}
 use Rattle.demand.specs.Arguments.{Deletion, deletion_order, deletion_step}
 use Rattle.demand.specs.Calls.{Deletes}
 use Rattle.demand.specs.Runs.{Kept}
@@ -26,17 +26,17 @@ use Rattle.demand.proofs.Demand.{demand}
 use Rattle.demand.proofs.Anew.{sent-none}
 
 -- what an owner's list says of a radio
-abbrev says : {h : History} {g : Number} {room listed : Rows} {reply : Members} → ListsExactly h g room listed reply → Number → Option ℕ
+abbrev says : {h : History} {g : Number} {room listed : Rows} {reply : Result ℕ Refusal} → ListsExactly h g room listed reply → Number → Option ℕ
 says {listed = listed} l n = state_in (take (length l.entries) listed) n
 
 -- it has the radio where there is the pair
-listed-there : {h : History} {g : Number} {room listed : Rows} {reply : Members} (l : ListsExactly h g room listed reply) (n : Number)
+listed-there : {h : History} {g : Number} {room listed : Rows} {reply : Result ℕ Refusal} (l : ListsExactly h g room listed reply) (n : Number)
     → wide_number n ≡ false → present (says l n) ≡ present (mark h (key g) (key n))
 listed-there {h = h} {g = g} l n narrow = ap present (l.says n narrow) ∙ told-present (mark h (key g) (key n))
 
 -- an acknowledged deassign; an owner lists his group before it and after it
 module _ {h : History} (d : Deletion) (stay : d.remove ≡ false) (asked : d.acknowledgement ≡ true) (space : Rows) {g : Number}
-    {room listed room' listed' : Rows} {reply reply' : Members} (l : ListsExactly h g room listed reply)
+    {room listed room' listed' : Rows} {reply reply' : Result ℕ Refusal} (l : ListsExactly h g room listed reply)
     (l' : ListsExactly (h then deletion_step d (length space)) g room' listed' reply') (n : Number) (narrow : wide_number n ≡ false) where
   all : LeavesAll h (deletion_order d) (length space)
   all = leaves_all h (deletion_order d) (length space) (record { groups_stay = stay; asked = asked })
@@ -50,7 +50,7 @@ module _ {h : History} (d : Deletion) (stay : d.remove ≡ false) (asked : d.ack
   others-listed other = l'.says n narrow ∙ ap told (all.others (key g) (key n) other) ∙ sym (l.says n narrow)
 
   -- one that it names is listed as leaving, where the call is taken
-  pub leaving-listed : {c c' : Contents} {sent : Rows} {count : ℕ} → Kept c h → Deletes d space sent c c' (Orders count)
+  pub leaving-listed : {c c' : Contents} {sent : Rows} {count : ℕ} → Kept c h → Deletes d space sent c c' (Ok count)
       → names (deletion_order d) (key g) (key n) ≡ true → present (says l n) ≡ true → says l' n ≡ some leaving
   leaving-listed {count = count} k e named there =
       let s = deletion_step d (length space) in
@@ -58,7 +58,7 @@ module _ {h : History} (d : Deletion) (stay : d.remove ≡ false) (asked : d.ack
       l'.says n narrow ∙ ap told (all.named taken (key g) (key n) named (sym (listed-there l n narrow) ∙ there))
 
 -- an owner who lists his group before a call and after it, and misses a radio
-pub off-the-list : {h : History} {s : Step} {g : Number} {room listed room' listed' : Rows} {reply reply' : Members} {owner : Number}
+pub off-the-list : {h : History} {s : Step} {g : Number} {room listed room' listed' : Rows} {reply reply' : Result ℕ Refusal} {owner : Number}
     → Owns (h then s) owner g → (l : ListsExactly h g room listed reply) (l' : ListsExactly (h then s) g room' listed' reply')
     → (n : Number) → wide_number n ≡ false → present (says l n) ≡ true → says l' n ≡ none → LetsGo h (key g) (key n) s
 off-the-list {h = h} {s = s} {g = g} {owner = owner} own l l' n narrow there gone =

@@ -7,6 +7,7 @@ use Prim.Native.Nat.{ℕ}
 use native.Mathlib.Omega.{arith}
 use lib.Dec.{eqb}
 use lib.ListN.{length}
+use Rattle.std.specs.Prelude.{Err}
 use Rattle.refusal.specs.Number.{number_of}
 use Rattle.refusal.specs.declared.Refusal.{Refusal}
 use Rattle.refusal.specs.declared.Refusal.TheVariants.{NotWritten}
@@ -21,13 +22,8 @@ use Rattle.order.specs.Numbers.{radio_number, asked_number}
 use Rattle.order.specs.Steps.{handover_step, define_step}
 use Rattle.store.specs.Storage.{Contents}
 use Rattle.store.specs.Form.{roomy}
-use Rattle.replies.specs.Orders.{empty_verdict}
-use Rattle.replies.specs.Sending.{sent_reply}
-use Rattle.replies.specs.Listing.{members_reply}
-use Rattle.replies.specs.declared.Sent.TheVariants as sending
-use Rattle.replies.specs.declared.Members.TheVariants as members
-use Rattle.replies.specs.declared.Shown.{Shown}
-use Rattle.replies.proofs.Orders.{reply-some}
+use Rattle.replies.specs.Orders.{answered, empty_verdict}
+use Rattle.replies.specs.Showing.{shown_as}
 use Rattle.demand.specs.Arguments.{deletion_step, answering_step}
 use Rattle.demand.specs.Runs.{Kept}
 use Rattle.demand.specs.Demand.{Never18}
@@ -68,13 +64,9 @@ show-not18 w asker g = first-not18 (ask_tests w asker g) refl
 in-history : (h : History) (s : Step) → refusal_in h s ≡ some NotWritten → ⊥
 in-history h s = step-not18 (world h) (tally_in (world h) (named_in (h then s)) (effect (world h) s)) s
 
-sent-some : (o : Option Refusal) (n : ℕ) (r : Refusal) → sending.Refused r ≡ sent_reply o n → o ≡ some r
-sent-some none n r e = let z : ◌≡◌ {A = ℕ} 0 1 = cc in absurd (omega arith)
-sent-some (some x) n r e = let q : x ≡ r = cc in ap some q
-
-members-some : (o : Option Refusal) (n : ℕ) (r : Refusal) → members.Refused r ≡ members_reply o n → o ≡ some r
-members-some none n r e = let z : ◌≡◌ {A = ℕ} 0 1 = cc in absurd (omega arith)
-members-some (some x) n r e = let q : x ≡ r = cc in ap some q
+answered-some : {A : Type 0} (o : Option Refusal) (a : A) (r : Refusal) → Err r ≡ answered o a → o ≡ some r
+answered-some none a r e = let z : ◌≡◌ {A = ℕ} 0 1 = cc in absurd (omega arith)
+answered-some (some x) a r e = let q : x ≡ r = cc in ap some q
 
 roomy-begins : (c : Contents) → roomy c ≡ true → empty_verdict c ≡ some NotWritten → ⊥
 roomy-begins c r e = let z : ◌≡◌ {A = ℕ} 0 1 = cc in absurd (omega arith)
@@ -84,18 +76,18 @@ never18 {c} {h} k =
     let f = demand k in
     record {
       defines = λ {asker} {values} {room} e. let s = define_step asker values.place (length room) in
-          in-history h s (sent-some (refusal_in h s) (length (sent_in h s)) NotWritten (f.defines e).0);
+          in-history h s (answered-some (refusal_in h s) (length (sent_in h s)) NotWritten (f.defines e).0);
       deletes = λ {d} {room} e. let s = deletion_step d (length room) in
-          in-history h s (sent-some (refusal_in h s) (length (sent_in h s)) NotWritten (f.deletes e).0);
+          in-history h s (answered-some (refusal_in h s) (length (sent_in h s)) NotWritten (f.deletes e).0);
       answers = λ {a} e. let s = answering_step a in
-          in-history h s (reply-some (refusal_in h s) NotWritten (f.answers e));
+          in-history h s (answered-some (refusal_in h s) tt NotWritten (f.answers e));
       hands_over = λ {asker} {group} {owners} e. let s = handover_step asker group owners in
-          in-history h s (reply-some (refusal_in h s) NotWritten (f.hands_over e));
-      ticks = λ e. in-history h tick (reply-some (refusal_in h tick) NotWritten (f.ticks e));
+          in-history h s (answered-some (refusal_in h s) tt NotWritten (f.hands_over e));
+      ticks = λ e. in-history h tick (answered-some (refusal_in h tick) tt NotWritten (f.ticks e));
       lists = λ {asker} {asked} {room} e. let g = asked_number asker asked in let l = list_in h (radio_number asker) g (length room) in
           list-not18 (world h) (radio_number asker) g (radios_in h (key g)) (length room)
-          (members-some l.refused (length l.entries) NotWritten (f.lists e).0);
-      shows = λ {asker} {asked} e q. let g = asked_number asker asked in let o = (show_in h (radio_number asker) g).refused in
-          show-not18 (world h) (radio_number asker) g (reply-some o NotWritten (sym q ∙ ap (λ (x : Shown). x.reply) (f.shows e)));
-      empties = λ e. roomy-begins c (form-parts c f.written).0 (reply-some (empty_verdict c) NotWritten (empty-says e).replies);
+          (answered-some l.refused (length l.entries) NotWritten (f.lists e).0);
+      shows = λ {asker} {asked} e. let g = asked_number asker asked in let shown = show_in h (radio_number asker) g in
+          show-not18 (world h) (radio_number asker) g (answered-some shown.refused (shown_as shown.owners shown.parameters) NotWritten (f.shows e));
+      empties = λ e. roomy-begins c (form-parts c f.written).0 (answered-some (empty_verdict c) tt NotWritten (empty-says e).replies);
     }

@@ -5,6 +5,8 @@ use mathlib.Core.Option.{none, some}
 use Prim.Native.Nat.{ℕ}
 use native.Mathlib.Omega.{arith}
 use lib.ListN.{length}
+use Rattle.std.specs.Prelude.{Result, Ok, ⊤}
+use Rattle.refusal.specs.declared.Refusal.{Refusal}
 use Rattle.refusal.specs.declared.Refusal.TheVariants.{NotWritten}
 use Rattle.rules.specs.Order.{Step}
 use Rattle.rules.specs.Refusals.{accepted}
@@ -20,9 +22,6 @@ use Rattle.store.specs.Storage.{Rows, Contents, placing, ledger_of, laid}
 use Rattle.store.specs.Form.{roomy, Sound}
 use Rattle.replies.specs.Orders.{reply_of, empty_verdict, emptied, contents_after, Replies}
 use Rattle.replies.specs.Sending.{Sends}
-use Rattle.replies.specs.declared.Reply.{Reply}
-use Rattle.replies.specs.declared.Sent.{Sent}
-use Rattle.replies.specs.declared.Reply.TheVariants.{Done}
 use Rattle.demand.specs.Calls.{Empties}
 use Rattle.demand.specs.Runs.{Kept, begun, defined, deleted, answered, handed_over, ticked}
 use Rattle.demand.proofs.Calls.{empty-says, tick-says, answer-says, handover-says, define-says, delete-says}
@@ -54,10 +53,10 @@ step-holds c l s k =
     (step-written placing by_number_lem (ledger_of c) s p.1) p.0 (record { sound = k.sound; says = refl })))
 
 -- `empty` over contents with room
-empty_holds : (c : Contents) → Done ≡ reply_of (empty_verdict c) → Holds (emptied c) empty
+empty_holds : (c : Contents) → Ok tt ≡ reply_of (empty_verdict c) → Holds (emptied c) empty
 empty_holds c d = go (roomy c) refl d
   where
-    go : (b : Bool) → roomy c ≡ b → Done ≡ reply_of (cond b none (some NotWritten)) → Holds (cond b (laid empty c) c) empty
+    go : (b : Bool) → roomy c ≡ b → Ok tt ≡ reply_of (cond b none (some NotWritten)) → Holds (cond b (laid empty c) c) empty
     go true r d = laid-holds empty c (empty-written placing by_number_lem) r
     go false r d = let z : ◌≡◌ {A = ℕ} 0 1 = cc in absurd (omega arith)
 
@@ -71,7 +70,7 @@ pub record Stands (c : Contents) (h : History) : Type 0 where
 stands : {c : Contents} (h : History) → Holds c (run placing h) → Stands c h
 stands h k = record { sound = k.sound; says = k.says }
 
-begins : {c c' : Contents} → Empties c c' Done → Stands c' start
+begins : {c c' : Contents} → Empties c c' (Ok tt) → Stands c' start
 begins {c} e = let s = empty-says e in stands start (subst (λ (x : Contents). Holds x empty) (sym s.leaves) (empty_holds c s.replies))
 
 -- any order, by the contents that it leaves
@@ -80,10 +79,10 @@ follows {c} {c'} {h} s e k = stands (h then s)
     (subst (λ (x : Contents). Holds x (step placing (run placing h) s)) (sym e)
     (step-holds c (run placing h) s (record { sound = k.sound; says = k.says })))
 
-replied : {s : Step} {c c' : Contents} {h : History} {reply : Reply} → Stands c h → Replies s c c' reply → Stands c' (h then s)
+replied : {s : Step} {c c' : Contents} {h : History} {reply : Result ⊤ Refusal} → Stands c h → Replies s c c' reply → Stands c' (h then s)
 replied {s} k r = follows s r.leaves k
 
-sent-out : {s : ℕ → Step} {room sent : Rows} {c c' : Contents} {h : History} {reply : Sent}
+sent-out : {s : ℕ → Step} {room sent : Rows} {c c' : Contents} {h : History} {reply : Result ℕ Refusal}
     → Stands c h → Sends s room sent c c' reply → Stands c' (h then s (length room))
 sent-out {s} {room} k r = follows (s (length room)) r.leaves k
 

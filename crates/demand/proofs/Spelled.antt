@@ -5,6 +5,8 @@ use mathlib.Core.List.{[], map}
 use mathlib.Core.Option.{some}
 use Prim.Native.Nat.{ℕ}
 use lib.ListN.{length}
+use Rattle.std.specs.Prelude.{Result}
+use Rattle.refusal.specs.declared.Refusal.{Refusal}
 use Rattle.refusal.specs.declared.Refusal.TheVariants.{NotWritten}
 use Rattle.rules.specs.Order.{Step}
 use Rattle.rules.specs.Refusals.{accepted}
@@ -14,9 +16,8 @@ use Rattle.order.specs.Steps.{handover_step, define_step}
 use Rattle.order.specs.Walks.{onto}
 use Rattle.store.specs.Storage.{Rows, Contents, placing, ledger_of, laid}
 use Rattle.store.specs.Form.{is_written}
-use Rattle.replies.specs.Orders.{reply_of, verdict, contents_after}
-use Rattle.replies.specs.Sending.{order_row, sent_on, sent_reply, Sends}
-use Rattle.replies.specs.declared.Sent.{Sent}
+use Rattle.replies.specs.Orders.{answered, reply_of, verdict, contents_after}
+use Rattle.replies.specs.Sending.{order_row, sent_on, Sends}
 use Rattle.demand.specs.Arguments.{deletion_step}
 use Rattle.demand.specs.Spelled.{SameOutcome, ReadAsListed}
 use Rattle.demand.proofs.Calls.{handover-says, define-says, delete-says}
@@ -36,13 +37,13 @@ module _ (c : Contents) (s s' : Step) (a : law.AsListed s s') where
 
 -- what two calls that send came to
 module _ (c : Contents) (step step' : ℕ → Step) (room : Rows) (a : law.AsListed (step (length room)) (step' (length room))) where
-  same-call : {sent sent' : Rows} {after after' : Contents} {reply reply' : Sent} → Sends step room sent c after reply
+  same-call : {sent sent' : Rows} {after after' : Contents} {reply reply' : Result ℕ Refusal} → Sends step room sent c after reply
       → Sends step' room sent' c after' reply' → SameOutcome reply reply' after after' sent sent'
   same-call k k' =
       let verdicts = same-verdict c (step (length room)) (step' (length room)) a in
       let orders = same_sent c (step (length room)) (step' (length room)) a in
       record {
-        replies = k.replies ∙ (λ i. sent_reply (verdicts i) (length (orders i))) ∙ sym k'.replies;
+        replies = k.replies ∙ (λ i. answered (verdicts i) (length (orders i))) ∙ sym k'.replies;
         leaves = k.leaves ∙ same-contents c (step (length room)) (step' (length room)) a ∙ sym k'.leaves;
         sends = k.sends ∙ (λ i. onto (map order_row (orders i)) room) ∙ sym k'.sends;
       }

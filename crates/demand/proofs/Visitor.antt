@@ -2,6 +2,8 @@
 use mathlib.Core.Path.{◌≡◌, sym, ap, ◌∙◌}
 use Prim.Native.Nat.{ℕ}
 use lib.ListN.{length, take}
+use Rattle.std.specs.Prelude.{Result}
+use Rattle.refusal.specs.declared.Refusal.{Refusal}
 use Rattle.rules.specs.Number.{Number, key}
 use Rattle.rules.specs.Order.{Step}
 use Rattle.rules.specs.World.{World}
@@ -13,7 +15,6 @@ use Rattle.rules.proofs.ByNumber.{by_number_lem}
 use Rattle.rules.proofs.Agree.{run_agree}
 use Rattle.rules.proofs.Visitor.{kept-apart}
 use Rattle.store.specs.Storage.{Rows, Contents, placing, ledger_of}
-use Rattle.replies.specs.declared.Members.{Members}
 use Rattle.demand.specs.Demand.{state_in, ListsExactly}
 use Rattle.demand.specs.Runs.{Kept}
 use Rattle.demand.proofs.Runs.{run-stands}
@@ -30,7 +31,7 @@ visitor-apart {h = h} {s = s} k k' {ours} {theirs} v a g =
     marked k' g (key ours) ∙ (kept-apart ours theirs v).leaves h s a g ∙ sym (marked k g (key ours))
 
 -- so an owner who lists his group before that call and after it is told the same of `ours`
-pub visitor-listed : {h : History} {s : Step} {g : Number} {room listed room' listed' : Rows} {reply reply' : Members}
+pub visitor-listed : {h : History} {s : Step} {g : Number} {room listed room' listed' : Rows} {reply reply' : Result ℕ Refusal}
     → {ours theirs : Number} → Visitor ours theirs → About theirs s
     → (l : ListsExactly h g room listed reply) (l' : ListsExactly (h then s) g room' listed' reply')
     → state_in (take (length l'.entries) listed') ours ≡ state_in (take (length l.entries) listed) ours

@@ -1,19 +1,18 @@
 -- What a delete and an answer are called with, besides what is lent; and the steps that they are.
-use Rattle.std.specs.Prelude.{Bool, ℕ}
+use Rattle.std.specs.Prelude.{Bool, ℕ, Option}
 use Rattle.rules.specs.Order.{Delete, Step, delete}
 use Rattle.rules.specs.declared.AnswerKind.{AnswerKind}
 use Rattle.order.specs.Steps.{answer_step, delete_of}
 use Rattle.order.specs.declared.Gtsi.{Gtsi}
 use Rattle.order.specs.declared.Itsi.{Itsi}
 use Rattle.order.specs.declared.Numbers.{Numbers}
-use Rattle.order.specs.declared.Listed.{Listed}
 
 pub record Deletion : Type 0 where
   pub asker : Itsi
   pub named : Numbers
   pub remove : Bool
   pub deassign : Bool
-  pub radios : Listed
+  pub radios : Option Numbers
   pub acknowledgement : Bool
 
 pub record Answering : Type 0 where

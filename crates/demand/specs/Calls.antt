@@ -2,20 +2,18 @@
 -- allows. `Post` is the contract's claim as the checker reads it; nothing of a function's body is used.
 --     lent, out      where the contents and the room were lent          left    what the parameters held at the end
 --     meets          the reply and what was left meet the contract      starts, roomed, ends, sends, lists    what these places held
-use Rattle.std.specs.Prelude.{◌≡◌, List, ℕ}
+use Rattle.std.specs.Prelude.{◌≡◌, List, ℕ, Result, ⊤}
 use contract.Lifetimes.{Lfts}
 use borrow.Fn.Kinds.{ended_of}
 use denote.Triple.Clauses.{AtExit}
 use Rattle.std.specs.Borrow.{Bor, MutBor}
+use Rattle.refusal.specs.declared.Refusal.{Refusal}
 use Rattle.layout.specs.declared.Record.{Record}
 use Rattle.store.specs.Storage.{Rows, Contents, contents}
 use Rattle.order.specs.declared.Itsi.{Itsi}
 use Rattle.order.specs.declared.Identity.{Identity}
 use Rattle.order.specs.declared.GroupAsked.{GroupAsked}
 use Rattle.order.specs.declared.Numbers.{Numbers}
-use Rattle.replies.specs.declared.Reply.{Reply}
-use Rattle.replies.specs.declared.Sent.{Sent}
-use Rattle.replies.specs.declared.Members.{Members}
 use Rattle.replies.specs.declared.Shown.{Shown}
 use Rattle.demand.specs.Arguments.{Deletion, Answering}
 use Rattle.answering.proofs.empty.Kinds as empty-kinds
@@ -50,7 +48,7 @@ held s = contents s.head.now s.groups.now s.pairs.now
 
 -- ---- the orders: the contents before and after; room: the rows lent for what goes out; sent: the same rows after the call ----
 
-pub record Empties (before after : Contents) (reply : Reply) : Type 0 where
+pub record Empties (before after : Contents) (reply : Result ⊤ Refusal) : Type 0 where
   pub lifetimes : Lfts 3
   pub lent : Storage
   pub left : AtExit (ended_of 3 empty-kinds.ps empty-kinds.r) lifetimes
@@ -58,7 +56,7 @@ pub record Empties (before after : Contents) (reply : Reply) : Type 0 where
   pub meets : empty.Post lifetimes (lent.head, (read_only lent.groups, (read_only lent.pairs, tt))) reply left
   pub ends : contents left.0.now lent.groups.now lent.pairs.now ≡ after
 
-pub record Ticks (before after : Contents) (reply : Reply) : Type 0 where
+pub record Ticks (before after : Contents) (reply : Result ⊤ Refusal) : Type 0 where
   pub lifetimes : Lfts 3
   pub lent : Storage
   pub left : AtExit (ended_of 3 tick-kinds.ps tick-kinds.r) lifetimes
@@ -66,7 +64,7 @@ pub record Ticks (before after : Contents) (reply : Reply) : Type 0 where
   pub meets : tick.Post lifetimes (read_only lent.head, (read_only lent.groups, (lent.pairs, tt))) reply left
   pub ends : contents lent.head.now lent.groups.now left.1.1.0.now ≡ after
 
-pub record Answers (a : Answering) (before after : Contents) (reply : Reply) : Type 0 where
+pub record Answers (a : Answering) (before after : Contents) (reply : Result ⊤ Refusal) : Type 0 where
   pub lifetimes : Lfts 3
   pub lent : Storage
   pub left : AtExit (ended_of 3 answer-kinds.ps answer-kinds.r) lifetimes
@@ -74,7 +72,7 @@ pub record Answers (a : Answering) (before after : Contents) (reply : Reply) : T
   pub meets : answer.Post lifetimes (lent.head, (read_only lent.groups, (lent.pairs, (a.radio, (a.group, (a.kind, (a.result, tt))))))) reply left
   pub ends : contents left.0.now lent.groups.now left.1.1.0.now ≡ after
 
-pub record HandsOver (asker : Itsi) (group : Identity) (owners : Numbers) (before after : Contents) (reply : Reply) : Type 0 where
+pub record HandsOver (asker : Itsi) (group : Identity) (owners : Numbers) (before after : Contents) (reply : Result ⊤ Refusal) : Type 0 where
   pub lifetimes : Lfts 3
   pub lent : Storage
   pub left : AtExit (ended_of 3 handover-kinds.ps handover-kinds.r) lifetimes
@@ -82,7 +80,7 @@ pub record HandsOver (asker : Itsi) (group : Identity) (owners : Numbers) (befor
   pub meets : handover.Post lifetimes (read_only lent.head, (lent.groups, (read_only lent.pairs, (asker, (group, (owners, tt)))))) reply left
   pub ends : contents lent.head.now left.1.0.now lent.pairs.now ≡ after
 
-pub record Defines (asker : Itsi) (values : Record) (room sent : Rows) (before after : Contents) (reply : Sent) : Type 0 where
+pub record Defines (asker : Itsi) (values : Record) (room sent : Rows) (before after : Contents) (reply : Result ℕ Refusal) : Type 0 where
   pub lifetimes : Lfts 4
   pub lent : Storage
   pub out : MutBor Rows
@@ -93,7 +91,7 @@ pub record Defines (asker : Itsi) (values : Record) (room sent : Rows) (before a
   pub ends : contents left.0.now left.1.0.now left.1.1.0.now ≡ after
   pub sends : left.1.1.1.1.1.0.now ≡ sent
 
-pub record Deletes (d : Deletion) (room sent : Rows) (before after : Contents) (reply : Sent) : Type 0 where
+pub record Deletes (d : Deletion) (room sent : Rows) (before after : Contents) (reply : Result ℕ Refusal) : Type 0 where
   pub lifetimes : Lfts 4
   pub lent : Storage
   pub out : MutBor Rows
@@ -107,7 +105,7 @@ pub record Deletes (d : Deletion) (room sent : Rows) (before after : Contents) (
 
 -- ---- the questions, on contents that they do not change; listed: the rows of the room after the call ----
 
-pub record Lists (asker : Itsi) (asked : GroupAsked) (room listed : Rows) (on : Contents) (reply : Members) : Type 0 where
+pub record Lists (asker : Itsi) (asked : GroupAsked) (room listed : Rows) (on : Contents) (reply : Result ℕ Refusal) : Type 0 where
   pub lifetimes : Lfts 4
   pub lent : Storage
   pub out : MutBor Rows
@@ -117,7 +115,7 @@ pub record Lists (asker : Itsi) (asked : GroupAsked) (room listed : Rows) (on : 
   pub meets : list.Post lifetimes (read_only lent.head, (read_only lent.groups, (read_only lent.pairs, (asker, (asked, (out, tt)))))) reply left
   pub lists : left.1.1.1.1.1.0.now ≡ listed
 
-pub record Shows (asker : Itsi) (asked : GroupAsked) (on : Contents) (reply : Shown) : Type 0 where
+pub record Shows (asker : Itsi) (asked : GroupAsked) (on : Contents) (reply : Result Shown Refusal) : Type 0 where
   pub lifetimes : Lfts 3
   pub lent : Storage
   pub left : AtExit (ended_of 3 show-kinds.ps show-kinds.r) lifetimes

@@ -132,7 +132,8 @@ module _ (c : Contents) (w : Sound c) where
         tests-pass (tests v (tally placing (ledger_of c) (effect v s)) s) taken 3
 
     -- so the owners that are made of the order are all of them, and have room in a row
-    pub owners-set : (o : Keys RadioKey max_owners) → o ≡ keys_as (rising (key (radio_number asker) ∷ fitting max_listed_owners (numbers_in asker.1 (some (numbers_of owners)))))
+    pub owners-set : (o : Keys RadioKey max_owners)
+        → o ≡ keys_as (rising (key (radio_number asker) ∷ fitting max_listed_owners (numbers_in asker.1 (some (numbers_of owners)))))
         → keys_held o ≡ rising owners_named
     owners-set o e =
         let a = key (radio_number asker) in
