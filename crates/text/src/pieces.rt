@@ -6,6 +6,7 @@ ghost use Rattle.text.specs.Text.{number_text};
 ghost use Rattle.text.specs.Put.{Put};
 
 // The digit of a value below 16.
+// Stays: house has the like for bytes, by a table, but text does not stand on house.
 pub fn digit_of(value: u64) -> u8
     requires { value ≤ 15 }
     ensures { result ≡ digit value }
