@@ -35,7 +35,7 @@ m_bit = record { width = 1; first = 0; codes = 1; refusal = TypeThree }
 abbrev Told : Pass → List ℕ → ℕ → ℕ → ℕ → Lent → Lent → ℕ → Option Passed → Shape → Type 0
 Told pass s last at p out out' at' r x = Puts pass (Looks pass s last p x) (rows_of x [] p) s at p out out' at' r
 
-module _ (pass : Pass) (s : List ℕ) (last at p : ℕ) (x : Shape) {out out' : Lent} {at' : ℕ} {r : Option Passed} (inside : p < places) where
+module _ {pass : Pass} {s : List ℕ} (last : ℕ) {at p : ℕ} {x : Shape} {out out' : Lent} {at' : ℕ} {r : Option Passed} (inside : p < places) where
   -- where the shape is told by a match
   when-told : (y : Shape) → x ≡ y → Told pass s last at p out out' at' r y → Told pass s last at p out out' at' r x
   when-told y e f = subst (Told pass s last at p out out' at' r) (sym e) f
@@ -78,12 +78,12 @@ module _ (pass : Pass) (s : List ℕ) (last at p : ℕ) (x : Shape) {out out' : 
   ending-found t e g h = when-told Ending e (puts-found t (field-writes g inside refl Any) refl (inl refl) inside (Looks pass s last p Ending) 0 r refl h)
 
 -- ---- the two refusals
-module _ (pass : Pass) (s : List ℕ) (last at p : ℕ) (x : Shape) {out : Lent} {r : Option Passed} (inside : p < places) (reason : Bool) where
+module _ {pass : Pass} {s : List ℕ} (last : ℕ) {at p : ℕ} {x : Shape} {out : Lent} {r : Option Passed} (inside : p < places) {reason : Bool} where
   pub missing-found : (q : ℕ) → x ≡ Missing q → T (sound x p) → reason ≡ eqb (get_or s q 0) No → r ≡ barred_of pass reason (Some passed.NoGroup)
       → Told pass s last at p out out at r x
   unfolding rows_of present
   missing-found q e ok d h =
-      when-told pass s last at p x inside (Missing q) e
+      when-told last inside (Missing q) e
       (puts-barred NoGroup (is q No) s at p out pass inside (Looks pass s last p (Missing q)) reason (Some passed.NoGroup) (omega arith)
       (λ vs z k. finds pass (rw (get_or-take p vs q 0 (sound-missing x p q e ok)) (and-true (eqb (get_or vs q 0) No) ∙ k ∙ sym d)))
       (λ vs l z on. bar-group NoGroup (is q No) s at p out vs l z refl on)
@@ -92,7 +92,7 @@ module _ (pass : Pass) (s : List ℕ) (last at p : ℕ) (x : Shape) {out : Lent}
   pub nothing-found : (o : ℕ) → x ≡ Nothing o → reason ≡ leb last (o + 1) → r ≡ barred_of pass reason None → Told pass s last at p out out at r x
   unfolding rows_of present
   nothing-found o e d h =
-      when-told pass s last at p x inside (Nothing o) e
+      when-told last inside (Nothing o) e
       (puts-barred NothingFollows (nothing_since o) s at p out pass inside (Looks pass s last p (Nothing o)) reason None tt
       (λ vs z k. noted pass vs k)
       (λ vs l z on. bar-bad NothingFollows (nothing_since o) s at p out vs l z refl on)

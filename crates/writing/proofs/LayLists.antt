@@ -40,15 +40,6 @@ module _ {pass : Pass} {items : Items} {s : List ℕ} {from t : ℕ} {out₀ : L
       }
 
   module _ {out : Lent} {at p i : ℕ} (now : Listed pass items s from t out₀ out at p i) where
-    -- what an item that is still to come starts from
-    pub listed-ready : (m : ℕ) → Ready from (t + 1) (stride items * m) → i < m → Ready at p (stride items)
-    listed-ready m start h =
-        let step : stride items * i + stride items ≡ stride items * suc i = sym (mul-suc (stride items) i) in
-        record {
-          room = omega (arith, start.room, now.place, mul-le-mul_left (stride items) h);
-          low = omega (arith, start.low, now.place, now.low);
-        }
-
     -- all of them, where no more are to come
     pub listed-all : Writes pass (Known s t) (repeated items t (t + 1) 0 i) s from (t + 1) out₀ out (Some at)
     listed-all =

@@ -25,11 +25,6 @@ ready-most now = omega (arith, now.low, now.room)
 pub ready-few : {at p n : ℕ} (m : ℕ) → Ready at p n → m ≤ n → Ready at p m
 ready-few m now h = record { room = omega (arith, now.room); low = now.low }
 
-pub ready-next : (at at₁ p n k m : ℕ) (r : Option ℕ) → Ready at p n → r ≡ Some at₁ → Within r (at + 32 * k) → k + m ≤ n → Ready at₁ (p + k) m
-ready-next at at₁ p n k m r now e w h =
-    let l : at₁ ≤ at + 32 * k = subst (λ (x : Option ℕ). Within x (at + 32 * k)) e w in
-    record { room = omega (arith, now.room); low = omega (arith, now.low) }
-
 pub within_on : (r : Option ℕ) (at at₁ n k m : ℕ) → n + k ≡ m → at₁ ≤ at + 32 * n → Within r (at₁ + 32 * k) → Within r (at + 32 * m)
 within_on (Some at₂) at at₁ n k m e h w = omega arith
 within_on None at at₁ n k m e h w = tt

@@ -77,9 +77,6 @@ module _ (kind : Kind) (s : List ℕ) where
         (rw (← b, ← b') (f.outcome (told (all good (laid kind s)) v))))
 
 -- ---- the spare bits
-pub spare-width : (n : ℕ) → (8 - n % 8) % 8 ≡ 8 * bytes_for n - n
-spare-width n = omega arith
-
 value-zero : (w : ℕ) → value (replicate w false) ≡ 0
 unfolding value
 value-zero zero = refl

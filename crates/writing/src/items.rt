@@ -51,6 +51,7 @@ impl<'p, 'v, P: Pass> Walk<'p, 'v, P> {
         self.form(place)
     }
 
+    // Stays: only the table's element says what a list is of, so what an item is is told by a match.
     // An item that is there.
     fn item(&mut self, place: usize, items: Items) -> Option<()>
         requires { Ready self.old.at place (stride items) }

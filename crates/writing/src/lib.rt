@@ -19,6 +19,7 @@ use refusal::Refusal;
 use table::lines::{ACTION_TYPE_BITS, SS_TYPE, SS_TYPE_BITS, action_type};
 use walk::{Judge, Lay};
 
+// Stays: the public functions are lent a record as its kind and its values, here and in `frame`; a struct of the two would be made and taken apart again.
 // A whole frame that is known to be writable: the head, then the elements.
 fn lay_frame(kind: Kind, values: &[u32; PLACES], out: &mut [u8])
     requires { T (spec.valid kind values.now) }
@@ -30,6 +31,7 @@ fn lay_frame(kind: Kind, values: &[u32; PLACES], out: &mut [u8])
     let _ = walk_elements(&mut lay, kind, values);
 }
 
+// Stays: `bits` is how long the frame is, and not how long `out` is.
 // The spare bits of the last byte, as 0.
 fn lay_spare(out: &mut [u8], bits: usize)
     requires { bits ≤ most_bits }
@@ -38,6 +40,7 @@ fn lay_spare(out: &mut [u8], bits: usize)
     put_field(out, bits, (8 - bits % 8) % 8, 0);
 }
 
+// Stays: `bits` is how long the frame is, and not how long `out` is.
 // A record that is known to be writable, into bytes that have room for it.
 fn lay_whole(kind: Kind, values: &[u32; PLACES], out: &mut [u8], bits: usize)
     requires { (measured_of kind values.now ≡ Ok bits) × (bytes_for bits ≤ length out.old) }

@@ -11,6 +11,3 @@ returns-in_err-bits c =
     let err : c.from_residual.result ≡ Err n = search rules in
     let told = told-refused c.args.kind c.args.values.now n _ c.args.start (sym c.measure_record.ensures ∙ c.in_err-bits.was) in
     rw err (refused-record c.args.kind c.args.values.now _ c.args.start n told)
-
-pub write_part-requires : goal.write_part-requires
-write_part-requires c = sym c.measure_record.ensures ∙ c.in_ok-bits.was

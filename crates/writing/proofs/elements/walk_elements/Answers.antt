@@ -42,9 +42,6 @@ overflow_add-place g c =
 pub element-requires : goal.element-requires
 element-requires g c = turn-ready c.loop-element.invariant.0 _ c.loop-element-test.true
 
-pub overflow_add-last : goal.overflow_add-last
-overflow_add-last g c = omega (arith, c.loop-element.invariant.0.placed.room)
-
 pub loop-element-preserved : goal.loop-element-preserved
 loop-element-preserved g c =
     let some : c.element.result ≡ Some c.in_ok-ok_or.field-0 = some_passed _ _ _ _ c.ok_or.ensures.value c.in_ok-ok_or.was in

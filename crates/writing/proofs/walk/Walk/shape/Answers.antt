@@ -33,42 +33,28 @@ list-requires g c =
 
 pub returns-in-Number-clause-puts : goal.returns-in-Number-clause-puts
 returns-in-Number-clause-puts g c =
-    let a = c.args in
-    number-found g.P.Pass.pass a.self.now.values.now a.last a.self.now.at a.place a.shape (first-inside a.shape c.requires.0) _ _
-    c.in-Number.is c.requires.1 c.number.ensures c.field.ensures.passes c.found.ensures
+    number-found c.args.last (first-inside _ c.requires.0) _ _ c.in-Number.is c.requires.1 c.number.ensures c.field.ensures.passes c.found.ensures
 
 pub returns-in-Choice-clause-puts : goal.returns-in-Choice-clause-puts
 returns-in-Choice-clause-puts g c =
-    let a = c.args in
-    choice-found g.P.Pass.pass a.self.now.values.now a.last a.self.now.at a.place a.shape (first-inside a.shape c.requires.0) _ _ _
-    c.in-Choice.is c.choice.ensures c.field-in-Choice.ensures.passes c.found-in-Choice.ensures
+    choice-found c.args.last (first-inside _ c.requires.0) _ _ _ c.in-Choice.is c.choice.ensures c.field-in-Choice.ensures.passes c.found-in-Choice.ensures
 
 pub returns-in-Identity-clause-puts : goal.returns-in-Identity-clause-puts
 returns-in-Identity-clause-puts g c =
-    let a = c.args in
-    identity-found g.P.Pass.pass a.self.now.values.now a.last a.self.now.at a.place a.shape (first-inside a.shape c.requires.0) _
-    c.in-Identity.is c.identity.ensures.writes c.found-in-Identity.ensures
+    identity-found c.args.last (first-inside _ c.requires.0) _ c.in-Identity.is c.identity.ensures.writes c.found-in-Identity.ensures
 
 pub returns-in-List-clause-puts : goal.returns-in-List-clause-puts
 returns-in-List-clause-puts g c =
-    let a = c.args in
-    list-found g.P.Pass.pass a.self.now.values.now a.last a.self.now.at a.place a.shape (first-inside a.shape c.requires.0) _ _
-    c.in-List.is c.list.ensures.writes c.found-in-List.ensures
+    list-found c.args.last (first-inside _ c.requires.0) _ _ c.in-List.is c.list.ensures.writes c.found-in-List.ensures
 
 pub returns-in-Ending-clause-puts : goal.returns-in-Ending-clause-puts
 returns-in-Ending-clause-puts g c =
-    let a = c.args in
-    ending-found g.P.Pass.pass a.self.now.values.now a.last a.self.now.at a.place a.shape (first-inside a.shape c.requires.0) _
-    c.in-Ending.is c.field-in-Ending.ensures.passes c.found-in-Ending.ensures
+    ending-found c.args.last (first-inside _ c.requires.0) _ c.in-Ending.is c.field-in-Ending.ensures.passes c.found-in-Ending.ensures
 
 pub returns-in-Missing-clause-puts : goal.returns-in-Missing-clause-puts
 returns-in-Missing-clause-puts g c =
-    let a = c.args in
-    missing-found g.P.Pass.pass a.self.now.values.now a.last a.self.now.at a.place a.shape
-    (first-inside a.shape c.requires.0) _ _ c.in-Missing.is c.requires.1 c.holds.ensures c.barred.ensures
+    missing-found c.args.last (first-inside _ c.requires.0) _ c.in-Missing.is c.requires.1 c.holds.ensures c.barred.ensures
 
 pub returns-in-Nothing-clause-puts : goal.returns-in-Nothing-clause-puts
 returns-in-Nothing-clause-puts g c =
-    let a = c.args in
-    nothing-found g.P.Pass.pass a.self.now.values.now a.last a.self.now.at a.place a.shape
-    (first-inside a.shape c.requires.0) _ _ c.in-Nothing.is refl c.barred-in-Nothing.ensures
+    nothing-found c.args.last (first-inside _ c.requires.0) _ c.in-Nothing.is refl c.barred-in-Nothing.ensures
