@@ -18,12 +18,12 @@ use Rattle.table.specs.Fields.{row_for, number_field, choice_field}
 use Rattle.table.specs.Sound.{sound}
 use Rattle.table.proofs.FieldLaws.{number-row}
 use Rattle.table.proofs.ShapeLaws.{sound-number, sound-missing}
-use Rattle.writing.specs.Pass.{Pass, Judge, Lay}
+use Rattle.writing.specs.Pass.{Pass}
 use Rattle.writing.specs.declared.walk.Passed.{Passed}
 use Rattle.writing.specs.declared.walk.Passed.TheVariants as passed
-use Rattle.writing.specs.Lay.{Lent, Finds, Passes, Any, Writes, reached}
+use Rattle.writing.specs.Lay.{Lent, Passes, Any, Writes, reached}
 use Rattle.writing.specs.Found.{Looks, Puts, found_of, barred_of}
-use Rattle.writing.proofs.LayLaws.{finds}
+use Rattle.writing.proofs.LayLaws.{finds, finds_on}
 use Rattle.writing.proofs.LayShapes.{puts-found, puts-barred, bar-bad, bar-group}
 use Rattle.writing.proofs.Parts.{field-writes}
 
@@ -49,7 +49,7 @@ module _ {pass : Pass} {s : List ℕ} (last : ℕ) {at p : ℕ} {x : Shape} {out
         let same : row_for f [] ≡ number w [] = ap (λ (y : Field). row_for y []) d ∙ number-row w fit.0 fit.1 in
         let codes : 2 ^ 1 ≤ 2 ^ w = pow_mono fit.0 in
         let carried : get_or s p 0 ≡ held (number w []) (get_or s p 0) = rw (lt-leb (2 ^ w) 1 (omega arith)) in
-        let one = field-writes g inside (subst (λ (c : Row). get_or s p 0 ≡ held c (get_or s p 0)) (sym same) carried) Any in
+        let one = field-writes g inside (subst (λ (c : Row). get_or s p 0 ≡ held c (get_or s p 0)) (sym same) carried) in
         when-told (Number w) e
         (puts-found t (subst (λ (c : Row). Writes pass Any (c ∷ []) s at p out out' (reached t at')) same one) refl (inl refl) inside
         (Looks pass s last p (Number w)) _ r carried h)
@@ -58,7 +58,7 @@ module _ {pass : Pass} {s : List ℕ} (last : ℕ) {at p : ℕ} {x : Shape} {out
         → r ≡ found_of t (get_or s p 0) → Told pass s last at p out out' at' r x
     unfolding rows_of
     choice-found w n e d g h =
-        let one = field-writes (subst (λ (y : Field). Passes pass y (get_or s p 0) at out out' (reached t at')) d g) inside refl Any in
+        let one = field-writes (subst (λ (y : Field). Passes pass y (get_or s p 0) at out out' (reached t at')) d g) inside refl in
         when-told (Choice w n) e (puts-found t one refl (inr (omega arith)) inside (Looks pass s last p (Choice w n)) _ r refl h)
 
   -- an identity, a list: the first row is a choice
@@ -75,7 +75,7 @@ module _ {pass : Pass} {s : List ℕ} (last : ℕ) {at p : ℕ} {x : Shape} {out
   -- the M-bit is laid as 0, whatever its place holds
   pub ending-found : (t : Option ⊤) → x ≡ Ending → Passes pass m_bit 0 at out out' (reached t at') → r ≡ found_of t 0 → Told pass s last at p out out' at' r x
   unfolding rows_of
-  ending-found t e g h = when-told Ending e (puts-found t (field-writes g inside refl Any) refl (inl refl) inside (Looks pass s last p Ending) 0 r refl h)
+  ending-found t e g h = when-told Ending e (puts-found t (field-writes g inside refl) refl (inl refl) inside (Looks pass s last p Ending) 0 r refl h)
 
 -- ---- the two refusals
 module _ {pass : Pass} {s : List ℕ} (last : ℕ) {at p : ℕ} {x : Shape} {out : Lent} {r : Option Passed} (inside : p < places) {reason : Bool} where
@@ -94,10 +94,7 @@ module _ {pass : Pass} {s : List ℕ} (last : ℕ) {at p : ℕ} {x : Shape} {out
   nothing-found o e d h =
       when-told last inside (Nothing o) e
       (puts-barred NothingFollows (nothing_since o) s at p out pass inside (Looks pass s last p (Nothing o)) reason None tt
-      (λ vs z k. noted pass vs k)
+      (λ vs z. finds_on pass (λ (k : leb last (suc o) ≡ all (λ v. eqb v 0) (drop (suc o) (take p vs))).
+      and-true (all (λ v. eqb v 0) (drop (suc o) (take p vs))) ∙ sym (d ∙ ap (leb last) (add-one o) ∙ k)))
       (λ vs l z on. bar-bad NothingFollows (nothing_since o) s at p out vs l z refl on)
       r h)
-    where
-      noted : (pass : Pass) (vs : List ℕ) → Looks pass s last p (Nothing o) vs → Finds pass (present (take p vs) (nothing_since o ∷ []) ≡ reason)
-      noted Judge vs k = and-true (all (λ v. eqb v 0) (drop (suc o) (take p vs))) ∙ sym (d ∙ ap (leb last) (add-one o) ∙ k)
-      noted Lay vs k = tt

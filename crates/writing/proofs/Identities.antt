@@ -70,9 +70,9 @@ module _ {pass : Pass} {s : List ℕ} {at : ℕ} (p : ℕ) (room : p + 4 ≤ pla
 
   -- a form from 2 on has an SSI, and what its extension's row says
   module _ {out out₁ : Lent} {r₁ : Option ℕ} (from : 2 ≤ get_or s p 0) (f : Passes pass (number_field 24) (get_or s (p + 2) 0) at out out₁ r₁) where
-    pub ssi-then : (at₁ : ℕ) (out₂ : Lent) (r : Option ℕ) → r₁ ≡ Some at₁ → Writes pass (Known s p) (drop 3 (identity [] p)) s at₁ (p + 3) out₁ out₂ r
+    pub ssi-then : {at₁ : ℕ} {out₂ : Lent} {r : Option ℕ} → r₁ ≡ Some at₁ → Writes pass (Known s p) (drop 3 (identity [] p)) s at₁ (p + 3) out₁ out₂ r
         → Writes pass (Known s p) (drop 1 (identity [] p)) s at (p + 1) out out₂ r
-    ssi-then at₁ out₂ r e g =
+    ssi-then {at₁} {out₂} {r} e g =
         record {
           lent = stays_on f.lent g.lent;
           within = within_on r at at₁ 2 1 3 (omega arith) (longer (subst (λ (x : Option ℕ). Within x (at + 32)) e f.within)) g.within;

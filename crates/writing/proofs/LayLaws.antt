@@ -104,10 +104,6 @@ does-join Lay a b at at₁ out out₁ out₂ e f g = λ h.
     subst (λ (l : List Bool). Over out.bytes out₂.bytes at l) (sym (emit-append a b))
     (over-join out.bytes out₁.bytes out₂.bytes at (emit a) (emit b) (f two.0) (subst (λ (x : ℕ). Over out₁.bytes out₂.bytes x (emit b)) e (g two.1)))
 
-finds-join : (pass : Pass) (a b : List Laid) → Finds pass (all good a ≡ true) → Finds pass (all good b ≡ true) → Finds pass (all good (a ++ b) ≡ true)
-finds-join Judge a b f g = all_append good a b ∙ ap₂ ◌&&◌ f g
-finds-join Lay a b f g = tt
-
 -- what is held, and held on
 pub stays_none : {out : Lent} → Stays out out
 stays_none = record { size = refl; same = refl }
@@ -119,6 +115,14 @@ stays_on f g = record { size = g.size ∙ f.size; same = g.same ∙ f.same }
 pub finds : (pass : Pass) {A : Type 0} → A → Finds pass A
 finds Judge a = a
 finds Lay a = tt
+
+pub finds_on : (pass : Pass) {A B : Type 0} → (A → B) → Finds pass A → Finds pass B
+finds_on Judge f a = f a
+finds_on Lay f a = tt
+
+pub finds_by : (pass : Pass) {A B C : Type 0} → (A → B → C) → Finds pass A → Finds pass B → Finds pass C
+finds_by Judge f a b = f a b
+finds_by Lay f a b = tt
 
 -- ---- rows after rows
 pub lies-none : (pass : Pass) (at p : ℕ) (vs : List ℕ) (out : Lent) → Lies pass [] 0 at at p vs vs out out
@@ -172,7 +176,7 @@ module _ (pass : Pass) (a b : List Row) (s : List ℕ) (at at₁ p : ℕ) (vs vs
       go (Some at₂) g = (
         subst (λ (n : ℕ). Lies pass (one ++ two) n at at₂ p vs vs₂ out out₂) (sym (length-append a b))
             (lies-join pass one two (length a) (length b) at at₁ at₂ p vs vs₁ vs₂ out out₁ out₂ f.ends.0 g.0),
-        finds-join pass one two f.ends.1 g.1,
+        finds_by pass (λ (u : all good one ≡ true) (v : all good two ≡ true). all_append good one two ∙ ap₂ ◌&&◌ u v) f.ends.1 g.1,
       )
       go None g = all_append good_but_group one two ∙ ap (λ (t : Bool). all good_but_group one && t) g ∙ and-false (all good_but_group one)
 
@@ -232,13 +236,9 @@ module _ (pass : Pass) (r : Row) (s : List ℕ) (at p : ℕ) (vs : List ℕ) (ou
               stays = drop-set-lt (p + 1) vs p v (omega arith);
               does = d;
             },
-            found pass g,
+            finds_on pass (λ (u : good here ≡ true). rw u) g,
           );
         }
-      where
-        found : (pass : Pass) → Finds pass (good here ≡ true) → Finds pass (all good (here ∷ []) ≡ true)
-        found Judge g = rw g
-        found Lay g = tt
 
     lay-bad : good_but_group here ≡ false → Lays pass (r ∷ []) s at p vs (set vs p v) out out None
     lay-bad g = record { size = length-set vs p v; ends = ap (all good_but_group) one ∙ rw g }

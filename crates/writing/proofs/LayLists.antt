@@ -1,6 +1,6 @@
 -- The writer's loop over the items of a list: what it keeps from turn to turn, after whatever cleaned record holds the count as the caller's does.
 -- Assumes nothing.
-use Rattle.std.proofs.Common.{◌≡◌, ℕ, suc, ◌+◌, ◌*◌, ◌<◌, ◌≤◌, Option, Some, None, List, [], ◌∷◌, length, get_or, sym, refl, ◌∙◌, subst, mul-le-mul_left, mul-zero, mul-suc, add-one, arith}
+use Rattle.std.proofs.Common.{◌≡◌, ℕ, ◌+◌, ◌*◌, ◌<◌, ◌≤◌, Option, Some, None, List, [], ◌∷◌, length, get_or, refl, ◌∙◌, subst, mul-zero, mul-suc, add-one, arith}
 use Rattle.writing.specs.Pass.{Pass}
 use Rattle.layout.specs.Row.{Row, at_least}
 use Rattle.layout.specs.Shape.{least, times, stride, item, repeated, rows_of}
@@ -13,7 +13,7 @@ use Rattle.table.specs.Sound.{Clear}
 use Rattle.table.proofs.Walks.{value_before}
 use Rattle.table.proofs.Absent.{length-item, length-repeated}
 use Rattle.table.proofs.ListLaws.{Listing, listing_none, listing-more, listing-stop}
-use Rattle.writing.specs.Lay.{Lent, Stays, Within, Ready, Passes, Any, Known, Writes}
+use Rattle.writing.specs.Lay.{Lent, Stays, Within, Passes, Any, Known, Writes}
 use Rattle.writing.proofs.LayLaws.{kept, laying, stays_none, stays_on}
 use Rattle.writing.proofs.Parts.{field-then, field-stop}
 
@@ -62,8 +62,8 @@ module _ {pass : Pass} {items : Items} {s : List ℕ} {from t : ℕ} {out₀ : L
           let one = f.lays vs (rest.1.size ∙ size) rest.1.clear (same ∙ k) in
           (vs, one.0, rest.1, one.1)
 
-      pub listed_more : (at₁ w : ℕ) → r ≡ Some at₁ → w ≡ stride items → Listed pass items s from t out₀ out₁ at₁ (p + w) (i + 1)
-      listed_more at₁ w e l =
+      pub listed_more : {at₁ w : ℕ} → r ≡ Some at₁ → w ≡ stride items → Listed pass items s from t out₀ out₁ at₁ (p + w) (i + 1)
+      listed_more {at₁} {w} e l =
           let on : at₁ ≤ at + 32 * length (item_at items t p i) = subst (λ (x : Option ℕ). Within x (at + 32 * length (item_at items t p i))) e f.within in
           record {
             place = omega (arith, now.place, add-one i, mul-suc (stride items) i);
@@ -90,12 +90,12 @@ module _ (items : Items) (s : List ℕ) (p : ℕ) {pass : Pass} {at : ℕ} {out 
   counted : Passes pass (count_field items) (get_or s p 0) at out out₁ r₁
   counted = subst (λ (g : Field). Passes pass g (get_or s p 0) at out out₁ r₁) count passed
 
-  pub list-then : (at₁ : ℕ) (out₂ : Lent) (r : Option ℕ) → r₁ ≡ Some at₁
+  pub list-then : {at₁ : ℕ} {out₂ : Lent} {r : Option ℕ} → r₁ ≡ Some at₁
       → Writes pass (Known s p) (repeated items p (p + 1) 0 (times items)) s at₁ (p + 1) out₁ out₂ r
       → Writes pass Any (rows_of (shape.List items) [] p) s at p out out₂ r
   unfolding rows_of
-  list-then at₁ out₂ r = field-then counted inside refl at₁ (repeated items p (p + 1) 0 (times items)) out₂ r Any refl
+  list-then = field-then counted inside refl refl
 
   pub list-bad : r₁ ≡ None → Writes pass Any (rows_of (shape.List items) [] p) s at p out out₁ None
   unfolding rows_of
-  list-bad = field-stop counted inside refl (repeated items p (p + 1) 0 (times items)) Any
+  list-bad = field-stop counted inside refl

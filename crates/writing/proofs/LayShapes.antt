@@ -28,7 +28,7 @@ use Rattle.writing.specs.declared.walk.Passed.{Passed}
 use Rattle.writing.specs.declared.walk.Passed.TheVariants.{Empty, NoGroup}
 use Rattle.writing.specs.Lay.{Lent, Does, Finds, Lies, Lays, Ready, Any, Writes, Within, reached}
 use Rattle.writing.specs.Found.{Looks, LooksAlong, Found, Puts, found_of, barred_of}
-use Rattle.writing.proofs.LayLaws.{stays_none, finds, lay-under, over_none, kept, laying}
+use Rattle.writing.proofs.LayLaws.{stays_none, finds, finds_on, lay-under, over_none, kept, laying}
 
 -- ---- what the first row of an element leaves in the cleaned record
 module _ (c : Row) (more : List Row) (plain : c.hang ≡ []) where
@@ -54,7 +54,7 @@ module _ (c : Row) (more : List Row) (plain : c.hang ≡ []) where
     -- where the first value is 0, nothing is held: there is no other row, or 0 has no code
     nothing-held : held c (get_or s p 0) ≡ 0 → (more ≡ []) ⊎ (0 < c.first) → Clear vs p → Finds pass (all good (lay (c ∷ more) (take p vs) (drop p s)) ≡ true)
         → Finds pass (Clear vs' p)
-    nothing-held e one z g = go pass g
+    nothing-held e one z = finds_on pass (judged one)
       where
         judged : (more ≡ []) ⊎ (0 < c.first) → all good (lay (c ∷ more) (take p vs) (drop p s)) ≡ true → Clear vs' p
         judged (inl d) t = λ q h. at-or-behind q h (dec_lt p q)
@@ -73,10 +73,6 @@ module _ (c : Row) (more : List Row) (plain : c.hang ≡ []) where
             let all-good = sym (ap (all good) (first-laid (take p vs) (drop p s))) ∙ t in
             let low = leb-true c.first v (both_true (leb c.first v) (ltb v (c.first + c.codes)) (both_true (good x) _ all-good).0).0 in
             absurd (omega (arith, here, e))
-
-        go : (pass : Pass) → Finds pass (all good (lay (c ∷ more) (take p vs) (drop p s)) ≡ true) → Finds pass (Clear vs' p)
-        go Judge g = judged one g
-        go Lay g = tt
 
 -- ---- by the value at its first place
 module _ {pass : Pass} {c : Row} {more : List Row} {s : List ℕ} {at p at' : ℕ} {out out' : Lent} (x : Option ⊤)

@@ -39,13 +39,13 @@ module _ {pass : Pass} {f : Field} {v at : ℕ} {out out₁ : Lent} {r₁ : Opti
   here vs size = passed.lays s vs p (omega arith) is
 
   -- a field alone
-  pub field-writes : (known : List ℕ → Type 0) → Writes pass known (row_for f [] ∷ []) s at p out out₁ r₁
-  field-writes known = record { lent = passed.lent; within = passed.within; lays = λ vs size z k. (set vs p v, here vs size) }
+  pub field-writes : {known : List ℕ → Type 0} → Writes pass known (row_for f [] ∷ []) s at p out out₁ r₁
+  field-writes = record { lent = passed.lent; within = passed.within; lays = λ vs size z k. (set vs p v, here vs size) }
 
   -- a field, and rows that know its value
-  pub field-then : (at₁ : ℕ) (more : List Row) (out₂ : Lent) (r : Option ℕ) (known : List ℕ → Type 0) → v ≡ get_or s p 0 → r₁ ≡ Some at₁
+  pub field-then : {at₁ : ℕ} {more : List Row} {out₂ : Lent} {r : Option ℕ} {known : List ℕ → Type 0} → v ≡ get_or s p 0 → r₁ ≡ Some at₁
       → Writes pass (Known s p) more s at₁ (p + 1) out₁ out₂ r → Writes pass known (row_for f [] ∷ more) s at p out out₂ r
-  field-then at₁ more out₂ r known d e g =
+  field-then {at₁} {more} {out₂} {r} d e g =
       record {
         lent = stays_on passed.lent g.lent;
         within = within_on r at at₁ 1 (length more) (suc (length more)) (omega arith) (subst (λ (x : Option ℕ). Within x (at + 32)) e passed.within) g.within;
@@ -59,8 +59,8 @@ module _ {pass : Pass} {f : Field} {v at : ℕ} {out out₁ : Lent} {r₁ : Opti
       }
 
   -- a field that is bad stops what would follow
-  pub field-stop : (more : List Row) (known : List ℕ → Type 0) → r₁ ≡ None → Writes pass known (row_for f [] ∷ more) s at p out out₁ None
-  field-stop more known e =
+  pub field-stop : {more : List Row} {known : List ℕ → Type 0} → r₁ ≡ None → Writes pass known (row_for f [] ∷ more) s at p out out₁ None
+  field-stop {more} e =
       record {
         lent = passed.lent;
         within = tt;

@@ -1,6 +1,6 @@
 -- The walk over a table's elements: what is passed so far, and what is left.
 -- Assumes nothing.
-use Rattle.std.proofs.Common.{◌≡◌, ℕ, suc, ◌+◌, ◌*◌, ◌<◌, ◌≤◌, Bool, true, false, ◌&&◌, T, Option, Some, None, Ok, Err, List, [], ◌∷◌, ◌++◌, length, get_or, take, drop, replicate, sym, refl, ap, ◌∙◌, subst, ap₂, append_assoc, append-nil, zero-add, arith, drop_of_length-le, length-take-le, drop-drop, take_at}
+use Rattle.std.proofs.Common.{◌≡◌, ℕ, suc, ◌+◌, ◌*◌, ◌<◌, ◌≤◌, Bool, true, false, ◌&&◌, T, leb, eqb, Option, Some, None, Ok, Err, List, [], ◌∷◌, ◌++◌, length, get_or, take, drop, replicate, sym, refl, ap, ◌∙◌, subst, ap₂, append_assoc, append-nil, zero-add, arith, drop_of_length-le, length-take-le, drop-drop, take_at}
 use lib.ListN.{length-replicate}
 use Rattle.layout.specs.declared.Element.{Element}
 use Rattle.layout.specs.declared.Kind.{Kind}
@@ -28,7 +28,7 @@ use Rattle.refusal.specs.declared.Refusal.TheVariants.{Reserved, NoGroup}
 use Rattle.writing.specs.Lay.{Lent, Stays, Does, Finds, Lies, Ready, Within, reached}
 use Rattle.writing.specs.Found.{Looks, LooksAlong, Found, Puts}
 use Rattle.writing.specs.Whole.{Outcome, Walks}
-use Rattle.writing.proofs.LayLaws.{lay-append, vals-append, lies-none, lies-join, stays_none, stays_on, finds}
+use Rattle.writing.proofs.LayLaws.{lay-append, vals-append, lies-none, lies-join, stays_none, stays_on, finds, finds_on, finds_by}
 use Rattle.writing.proofs.Since.{Since, since_none, since-empty, since-held}
 
 -- what has a code has one or is the missing group's
@@ -138,9 +138,8 @@ module _ {pass : Pass} {kind : Kind} {es : List Element} {s : List ℕ} {out₀ 
         agree : (present now.vs (conditions_of e.0) ≡ present s (conditions_of e.0)) × (present now.vs (looks e) ≡ present s (looks e))
         agree = looks-agree kind s now.vs p e links.0 links.1 front
 
-        noted : (pass : Pass) (o : ℕ) → e.1 ≡ Nothing o → Finds pass (Since es count now.vs p last) → Looks pass s last p (Nothing o) now.vs
-        noted Lay o q since = tt
-        noted Judge o q since =
+        noted : (o : ℕ) → e.1 ≡ Nothing o → Since es count now.vs p last → leb last (suc o) ≡ all (λ v. eqb v 0) (drop (suc o) (take p now.vs))
+        noted o q since =
             let bounded = subst (λ (x : Shape). T (bound es x)) q (left (bound es e.1) (bounded es (drop (count + 1) es)) bounds) in
             since.tells (suc o) bounded (omega (arith, sound-nothing e.1 p o q (element-sound d now.placed less)))
 
@@ -151,7 +150,7 @@ module _ {pass : Pass} {kind : Kind} {es : List Element} {s : List ℕ} {out₀ 
         go (shape.List items) q on = tt
         go Ending q on = tt
         go (Missing o) q on = missing-agrees kind s now.vs p e links.0 links.1 front o (sym q) on
-        go (Nothing o) q on = noted pass o (sym q) now.since
+        go (Nothing o) q on = finds_on pass (noted o (sym q)) now.since
 
     abbrev own-rows : List Row
     own-rows = rows_of e.1 (conditions_of e.0) p
@@ -231,33 +230,22 @@ module _ {pass : Pass} {kind : Kind} {es : List Element} {s : List ℕ} {out₀ 
       pub turn-empty : r ≡ Some Empty → Wrote pass kind es s out₀ out' grouped last at' (p + w) (count + 1)
       turn-empty q =
           let g = found (Some Empty) q in
-          more grouped last g.0.0 (within (Some Empty) q) (fine-on pass now.fine g.0.1) (noted pass g.0.0 g.1 now.since)
-        where
-          noted : (pass : Pass) → Lies pass here (length own-rows) at at' p now.vs after.0 out out' → Finds pass (Clear after.0 p)
-              → Finds pass (Since es count now.vs p last) → Finds pass (Since es (count + 1) after.0 (p + span e.1) last)
-          noted Judge g z a = since-empty es count now.vs after.0 p last e a next room' g.before z
-          noted Lay g z a = tt
+          more grouped last g.0.0 (within (Some Empty) q) (fine-on pass now.fine g.0.1)
+          (finds_by pass (λ (z : Clear after.0 p) (a : Since es count now.vs p last). since-empty es count now.vs after.0 p last e a next room' g.0.0.before z)
+          g.1 now.since)
 
       pub turn-held : r ≡ Some Held → Wrote pass kind es s out₀ out' grouped (p + 1) at' (p + w) (count + 1)
       turn-held q =
           let g = found (Some Held) q in
-          more grouped (p + 1) g.0.0 (within (Some Held) q) (fine-on pass now.fine g.0.1) (noted pass g.0.0 g.1 now.since)
-        where
-          noted : (pass : Pass) → Lies pass here (length own-rows) at at' p now.vs after.0 out out' → Finds pass (get_or after.0 p 0 ≡ 0 → ⊥)
-              → Finds pass (Since es count now.vs p last) → Finds pass (Since es (count + 1) after.0 (p + span e.1) (p + 1))
-          noted Judge g some a = since-held es count now.vs after.0 p last e a next room' g.before some
-          noted Lay g some a = tt
+          more grouped (p + 1) g.0.0 (within (Some Held) q) (fine-on pass now.fine g.0.1)
+          (finds_by pass (λ (some : get_or after.0 p 0 ≡ 0 → ⊥) (a : Since es count now.vs p last).
+          since-held es count now.vs after.0 p last e a next room' g.0.0.before some) g.1 now.since)
 
       pub turn-missing : r ≡ Some passed.NoGroup → Wrote pass kind es s out₀ out' false last at' (p + w) (count + 1)
       turn-missing q =
           let g = found (Some passed.NoGroup) q in
-          more false last g.0 (within (Some passed.NoGroup) q) (fine-missing pass now.fine g.1 g.2) (noted pass now.since)
-        where
-          noted : (pass : Pass) → Finds pass (Since es count now.vs p last) → Finds pass (Since es (count + 1) after.0 (p + span e.1) last)
-          noted Judge a =
-              let g = found (Some passed.NoGroup) q in
-              since-empty es count now.vs after.0 p last e a next room' g.0.before g.3
-          noted Lay a = tt
+          more false last g.0 (within (Some passed.NoGroup) q) (fine-missing pass now.fine g.1 g.2)
+          (finds_on pass (λ (a : Since es count now.vs p last). since-empty es count now.vs after.0 p last e a next room' g.0.before g.3) now.since)
 
       pub turn-bad : r ≡ None → Walks pass (laid kind s) out₀ out' (Err Reserved)
       turn-bad q = record { lent = stays_on now.lent f.lent; outcome = outcome pass }

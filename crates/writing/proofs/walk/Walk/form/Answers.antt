@@ -15,7 +15,7 @@ returns-then-self-place-lt2-clause-writes g c =
 
 pub returns-clause-writes : goal.returns-clause-writes
 returns-clause-writes g c =
-    ssi-then c.args.place (omega (arith, c.requires.room)) c.if-self-place-lt2.false c.field-2.ensures.passes _ _ _
+    ssi-then c.args.place (omega (arith, c.requires.room)) c.if-self-place-lt2.false c.field-2.ensures.passes
     (goes_on c.in_ok-field.was) (rw c.field-2.ensures.stays.0 at c.extension.ensures.writes)
 
 pub returns-in_err-field-clause-writes : goal.returns-in_err-field-clause-writes
