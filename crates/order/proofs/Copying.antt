@@ -5,7 +5,7 @@ use Prim.Native.Nat.{ℕ, ◌+◌, ◌≤◌, ◌<◌}
 use native.Mathlib.Numerals.{add-one}
 use native.Mathlib.Omega.{arith}
 use lib.ListN.{length, get_or, take, set, length-set}
-use lib.Seq.{take_all, take-suc, length-take-le}
+use lib.Seq.{take-suc, length-take-le}
 use Rattle.order.specs.Walks.{onto}
 use Rattle.order.proofs.Walks.{onto-length, onto-more}
 
@@ -20,7 +20,3 @@ module _ {A : Type 0} (k room : List A) where
         length-set out i x ∙ ap length e ∙ onto-length (take i k) room (omega arith),
         rw (e, more) (ap (λ (j : ℕ). set (onto (take i k) room) j x) (sym n) ∙ t),
       )
-
-  -- all are
-  pub copy-all : (i : ℕ) → length k ≤ i → onto (take i k) room ≡ onto k room
-  copy-all i p = rw (take_all i k p)

@@ -4,20 +4,14 @@ use mathlib.Core.List.{List, [], ◌∷◌, ◌++◌, append_assoc}
 use Prim.Native.Nat.{ℕ, ◌+◌, ◌-◌, ◌≤◌, ◌<◌}
 use native.Mathlib.Numerals.{add-one}
 use native.Mathlib.Omega.{arith}
-use lib.ListN.{length, get_or, take, drop, set, take-append-drop, length-append, length-take, length-drop, get_or-append}
+use lib.ListN.{length, get_or, take, drop, set, take-append-drop, get_or-append}
 use lib.Seq.{take-suc, get_or-take, length-take-le, set_at, drop-append-le}
 use Rattle.std.specs.List.{copy_within}
 use Rattle.std.proofs.lemmas.List.{drop-take}
 use Rattle.order.specs.Walks.{left, moved}
-use Rattle.order.proofs.Walks.{left-cons, left_end}
+use Rattle.order.proofs.Walks.{left-cons}
 
 module _ {A : Type 0} where
-  pub moved_none : (by k : ℕ) (l : List A) → moved by k k l ≡ l
-  moved_none by k l = rw (left_end l k k (omega arith)) (take-append-drop (k + by) l)
-
-  pub moved_length : (by n i : ℕ) (l : List A) → n + by ≤ length l → i ≤ n → length (moved by i n l) ≡ length l
-  moved_length by n i l p q = simp (length-append, length-take, length-drop) (omega arith)
-
   -- stored at the last place of a front
   set_last : (l r : List A) (k : ℕ) (x : A) → k < length l → set (take (k + 1) l ++ r) k x ≡ take k l ++ (x ∷ r)
   set_last l r k x h =

@@ -1,15 +1,15 @@
 -- Laws of a list's keys as they are made: two ends and all between them, or the identities' own; and no more than may be.
 use Prim.Native.Nat.{ℕ, ◌-◌, ◌≤◌, ◌<◌}
 use mathlib.Core.Path.{◌≡◌, refl, sym, ap, ◌∙◌}
-use mathlib.Core.Bool.{Bool, true, false, ◌&&◌}
+use mathlib.Core.Bool.{Bool, true, false}
 use mathlib.Core.List.{List, [], ◌∷◌, map}
 use mathlib.Core.Option.{Option, some}
 use native.Mathlib.Omega.{arith}
 use lib.Dec.{eqb, ltb, leb}
 use lib.ListN.{length, get_or, length-map, length-take}
-use borrow.Author.Tests.{eqb-true, ltb-false, leb-true, leb-false, lt-ltb, le-ltb}
+use borrow.Author.Tests.{eqb-true, leb-true, leb-false, lt-ltb, le-ltb}
 use Rattle.rules.specs.Number.{count, used, identified, identity_key}
-use Rattle.rules.specs.Named.{consecutive, numbers, numbers_in, crossed, bad_range, too_many, span}
+use Rattle.rules.specs.Named.{consecutive, numbers, numbers_in, too_many, span}
 use Rattle.rules.specs.Number as number
 use Rattle.rules.proofs.Tests.{split}
 use Rattle.rules.proofs.ListLaws.{Once, length-once}
@@ -18,10 +18,6 @@ use Rattle.rules.proofs.InRange.{listed-numbers, range-numbers}
 use Rattle.order.specs.Keys.{fitting}
 use Rattle.order.specs.Lists.{identity_of, numbers_as}
 use Rattle.order.specs.declared.Identity.{Identity}
-
--- the SSI of a number stands in its identity
-pub ssi-named : (home : ℕ) (i : number.Identity) → (identified home i).ssi ≡ i.ssi
-ssi-named home i = split (eqb i.form 2) (λ e. rw e) (λ e. rw e)
 
 -- ---- how many ----
 
@@ -39,9 +35,6 @@ fitting-none most l h = rw (lt-ltb most (length l) h)
 -- a list that passed the test is handed on whole
 pub passed-whole : (most home : ℕ) (l : Option number.Numbers) → too_many most home l ≡ false → fitting most (numbers_in home l) ≡ numbers_in home l
 passed-whole most home l e = rw e
-
-pub fitting-few : (most : ℕ) (l : List ℕ) → length (fitting most l) ≤ most
-fitting-few most l = split (ltb most (length l)) (λ e. rw e (omega arith)) (λ e. let few = ltb-false most (length l) e in rw e few)
 
 pub fitting-once : (most : ℕ) (l : List ℕ) → Once l → Once (fitting most l)
 fitting-once most l h = split (ltb most (length l)) (λ e. rw e tt) (λ e. rw e h)
@@ -77,14 +70,6 @@ module _ (home : ℕ) (l : List Identity) (d : Identity) (h : length l ≡ 10) w
       rw (listed-numbers home (numbers_as code l) e) (let once = length-once keys in omega arith)
 
   -- ---- what is refused ----
-
-  pub range-bad : (code : ℕ) (b : Bool) → b ≡ crossed (identified home (end 0) ∷ identified home (end 1) ∷ [])
-      → (eqb code 1 && b) ≡ bad_range home (some (numbers_as code l))
-  range-bad code b q = go (eqb code 1) refl
-    where
-      go : (t : Bool) → eqb code 1 ≡ t → (t && b) ≡ (t && crossed (map (identified home) (used (numbers_as code l))))
-      go true e = q ∙ ap (λ (z : List number.Identity). crossed (map (identified home) z)) (sym (range-ends code e))
-      go false e = refl
 
   pub range-long : (code most : ℕ) (b : Bool) → eqb code 1 ≡ true → b ≡ ltb most (span (identity_key home (end 0)) (identity_key home (end 1)))
       → b ≡ too_many most home (some (numbers_as code l))

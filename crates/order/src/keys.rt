@@ -14,7 +14,7 @@ use rows::{MAX_LISTED_OWNERS, MAX_NUMBERS, MAX_OWNERS};
 use std::marker::PhantomData;
 
 // Keys of groups or of radios: how many, and their words; the words past them are 0.
-// An array and a count, and no `Vec`: there is no heap.
+// Stays: a count and an array, and no `Vec`, since there is no heap.
 #[derive(Clone, Copy)]
 pub struct Keys<K, const N: usize> {
     pub count: usize,
@@ -42,6 +42,7 @@ impl From<Gtsi> for GroupKey {
 }
 
 // The key of a radio's number.
+// Stays: keys of groups and of radios are types apart, so that none is taken for the other, and each `From` is one line over what they share.
 impl From<Itsi> for RadioKey {
     ghost from_gives = { λ r k. k.0 ≡ key (radio_number r) };
 
@@ -74,6 +75,7 @@ impl From<GroupKey> for Gtsi {
 }
 
 // A radio's number, both parts.
+// Stays: likewise.
 impl From<RadioKey> for Itsi {
     ghost from_gives = { λ k r. r ≡ radio_at k.0 };
 

@@ -24,6 +24,7 @@ pub struct Gtsi(pub u32, pub u32);
 pub struct Itsi(pub u32, pub u32);
 
 // The group of a list or a show: with its extension, or a plain SSI, which takes the asker's.
+// Stays: both are groups, and neither is an absence or a failure.
 #[derive(Clone, Copy)]
 pub enum GroupAsked {
     Whole(Gtsi),
@@ -81,6 +82,7 @@ impl Key for RadioKey {
 }
 
 // An identity: its form (0 SNA, 1 SSI, 2 SSI and extension), and its values.
+// Stays: the form is a number, since callers hand over any, and a reserved one is refused as a bad order.
 #[derive(Clone, Copy)]
 pub struct Identity {
     pub form: u32,
@@ -90,6 +92,7 @@ pub struct Identity {
 }
 
 // A list of numbers: its number type (0 one, 1 a range, 2 to 10 that many) and places for ten identities.
+// Stays: the number type is a number for the same reason.
 #[derive(Clone, Copy)]
 pub struct Numbers {
     pub code: u32,

@@ -27,6 +27,7 @@ pub fn wide_radio(radio: Itsi) -> bool
 }
 
 // Whether a group's number has.
+// Stays: a trait over both types of number would be longer than the two lines that it would join.
 pub fn wide_group(group: Gtsi) -> bool
     ensures { result ≡ wide_number (group_number group) }
 {
@@ -84,6 +85,7 @@ fn any_bad(numbers: &Numbers) -> bool
 }
 
 // Whether an SNA is.
+// Stays: a test that is passed on would stand in the contract in its place, and the two lines would be no fewer.
 fn any_short(numbers: &Numbers) -> bool
     ensures { result ≡ any short (used (numbers_of numbers.now)) }
 {

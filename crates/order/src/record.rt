@@ -3,7 +3,7 @@ ghost use Rattle.std.specs.Prelude.{◌+◌, ◌<◌, ◌≡◌};
 ghost use Rattle.layout.specs.Frame.{places};
 ghost use Rattle.rules.specs.Mark.{begun};
 ghost use Rattle.rules.specs.Recorded.{optional, optional_yes, acknowledgement_requested};
-ghost use Rattle.order.specs.Recorded.{identity_in, numbers_in, list_at, group_list, owner_list, radio_list, lists_of};
+ghost use Rattle.order.specs.Recorded.{identity_in, numbers_in, lists_of};
 
 use crate::values::{one_down, optional};
 use crate::{DefineLists, Identity, Numbers};
@@ -45,43 +45,14 @@ fn numbers_at(place: [u32; PLACES], k: usize) -> Numbers
     }
 }
 
-// That list, where it is given.
-fn list_at(place: [u32; PLACES], given: bool, k: usize) -> Option<Numbers>
-    requires { k + 40 < places }
-    ensures { result ≡ list_at place given k }
-{
-    given.then(|| numbers_at(place, k))
-}
-
-// The groups that a DEFINE record names.
-fn group_list(place: [u32; PLACES]) -> Option<Numbers>
-    ensures { result ≡ group_list place }
-{
-    list_at(place, place[GIVEN] == YES, GROUPS)
-}
-
-// The owners that it gives.
-fn owner_list(place: [u32; PLACES]) -> Option<Numbers>
-    ensures { result ≡ owner_list place }
-{
-    list_at(place, optional_yes(place, OWNERS_INCLUDED_GIVEN), OWNERS)
-}
-
-// The radios that it assigns.
-fn radio_list(place: [u32; PLACES]) -> Option<Numbers>
-    ensures { result ≡ radio_list place }
-{
-    list_at(place, optional_yes(place, ASSIGNMENT_GIVEN), RADIOS)
-}
-
-// The lists of a DEFINE record.
+// The lists of a DEFINE record: the groups that it names, the owners that it gives, the radios that it assigns.
 pub fn lists_of(place: [u32; PLACES]) -> DefineLists
     ensures { result ≡ lists_of place }
 {
     DefineLists {
-        groups: group_list(place),
-        owners: owner_list(place),
-        radios: radio_list(place),
+        groups: (place[GIVEN] == YES).then(|| numbers_at(place, GROUPS)),
+        owners: optional_yes(place, OWNERS_INCLUDED_GIVEN).then(|| numbers_at(place, OWNERS)),
+        radios: optional_yes(place, ASSIGNMENT_GIVEN).then(|| numbers_at(place, RADIOS)),
     }
 }
 

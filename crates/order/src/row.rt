@@ -70,6 +70,7 @@ fn letter_at(place: [u32; PLACES], k: usize) -> u64
 }
 
 // A parameter's word of the order's row.
+// Stays: likewise, as `order_word`.
 fn value_word(place: [u32; PLACES], j: usize) -> u64
     ensures { result ≡ value_word place j }
 {
@@ -84,6 +85,7 @@ fn value_word(place: [u32; PLACES], j: usize) -> u64
 }
 
 // A word of the order's row.
+// Stays: `j` is a place of the row, and the layout names the places.
 fn order_word(place: [u32; PLACES], j: usize) -> u64
     ensures { result ≡ order_word place j }
 {

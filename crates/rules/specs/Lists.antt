@@ -1,7 +1,6 @@
 -- Lists: what passes a test, each number once, rising lists.
 use Rattle.std.specs.Prelude.{ℕ, ◌+◌, ◌<◌, Bool, true, false, cond, not, ◌&&◌, List, [], ◌∷◌, ◌++◌, eqb, ltb}
 use Rattle.std.proofs.Math.Option.{Option, none, some}
-
 -- the test passes somewhere, and everywhere; what passes it, in its order
 pub use Rattle.std.specs.List.{list_any as any, list_all as all, filter as keep}
 

@@ -1,12 +1,11 @@
 -- Laws of the characters of a line, as the readers of words use them.
-use mathlib.Core.Path.{◌≡◌, refl, sym, ap}
+use mathlib.Core.Path.{◌≡◌, refl}
 use mathlib.Core.Bool.{Bool, true, false, ◌&&◌}
 use mathlib.Core.List.{List}
-use Prim.Native.Nat.{ℕ, ◌+◌, ◌-◌, ◌≤◌, ◌<◌}
-use native.Mathlib.Omega.{arith}
+use Prim.Native.Nat.{ℕ, ◌+◌, ◌≤◌, ◌<◌}
 use lib.Dec.{leb, ltb, eqb}
 use lib.ListN.{length, get_or}
-use borrow.Author.Tests.{ltb-true, le-leb, lt-leb, leb-true, leb-false}
+use borrow.Author.Tests.{ltb-true, leb-true}
 use Rattle.words.specs.Words.{stands_at, enough_at}
 
 -- of two tests that hold together each holds
@@ -25,21 +24,3 @@ module _ (line : List ℕ) (at width : ℕ) where
   enough-within e =
       let each = both_hold (leb width 16) (leb (at + width) (length line)) e in
       (leb-true width 16 each.0, leb-true (at + width) (length line) each.1)
-
-  -- none stand behind the line's end
-  pub enough-none : length line < at → false ≡ enough_at line at width
-  unfolding enough_at
-  enough-none h = rw (lt-leb (at + width) (length line) (omega arith)) (none (leb width 16))
-    where
-      none : (t : Bool) → false ≡ (t && false)
-      none true = refl
-      none false = refl
-
-  -- else the rest of the line tells
-  pub enough-told : at ≤ length line → (leb width 16 && leb width (length line - at)) ≡ enough_at line at width
-  unfolding enough_at
-  enough-told h = ap (λ t. leb width 16 && t) (told (leb width (length line - at)) refl)
-    where
-      told : (t : Bool) → leb width (length line - at) ≡ t → t ≡ leb (at + width) (length line)
-      told true e = sym (le-leb (at + width) (length line) (omega (arith, leb-true width (length line - at) e)))
-      told false e = sym (lt-leb (at + width) (length line) (omega (arith, leb-false width (length line - at) e)))
