@@ -152,7 +152,8 @@ pub radio-key-word-unique : Unique radio-key-word-kinds.ps radio-key-word-kinds.
 radio-key-word-unique κs a r r' s s' p q = p ∙ sym q
 
 -- whatever the keys are of, and however many places there are
-module _ (K : RattleType) (laws : Laws K) (copy : IsCopy K) (key : Key.Ghosts K.Denot) (key-dict : Dict) (clone : Clone.Ghosts K.Denot) (clone-dict : Dict) where
+module _ (K : RattleType) (laws : Laws K) (copy : IsCopy K) (key : Key.Ghosts K.Denot) (key-dict : Dict) (clone : Clone.Ghosts K.Denot)
+    (clone-dict : Dict) where
   pub keys-named-unique :
       Unique (keys-named-kinds.ps K laws copy) (keys-named-kinds.r K laws copy) (keys-named.Post K laws copy key key-dict clone clone-dict)
   keys-named-unique κs a r r' s s' p q = p ∙ sym q

@@ -1,6 +1,7 @@
 -- The lists of a DEFINE record, whether they are given, and their numbers.
 use Rattle.std.specs.Prelude.{ℕ, zero, suc, ◌+◌, Bool, cond, List, [], ◌∷◌, Option, Some, None}
-use Rattle.rules.specs.Recorded.{value_at, code_at, says_yes, optional_yes, group_given, group_numbers, owners_included, owner_numbers, assignment, radio_numbers}
+use Rattle.rules.specs.Recorded.{value_at, code_at, says_yes, optional_yes}
+use Rattle.rules.specs.Recorded.{group_given, group_numbers, owners_included, owner_numbers, assignment, radio_numbers}
 use Rattle.rows.specs.Layout.{max_listed}
 use Rattle.order.specs.declared.Identity.{Identity}
 use Rattle.order.specs.declared.Numbers.{Numbers}

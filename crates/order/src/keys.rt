@@ -36,13 +36,13 @@ fn key(ssi: u32, extension: u32) -> u64
 impl From<Gtsi> for GroupKey {
     ghost from_gives = { λ g k. k.0 ≡ key (group_number g) };
 
+    // Stays: keys of groups and of radios are types apart, so that none is taken for the other; what they share is `key`.
     fn from(group: Gtsi) -> GroupKey {
         GroupKey(key(group.0, group.1))
     }
 }
 
 // The key of a radio's number.
-// Stays: keys of groups and of radios are types apart, so that none is taken for the other, and each `From` is one line over what they share.
 impl From<Itsi> for RadioKey {
     ghost from_gives = { λ r k. k.0 ≡ key (radio_number r) };
 
@@ -69,13 +69,13 @@ fn extension_of(key: u64) -> u32
 impl From<GroupKey> for Gtsi {
     ghost from_gives = { λ k g. g ≡ group_at k.0 };
 
+    // Stays: likewise; what they share is `ssi_of` and `extension_of`.
     fn from(group: GroupKey) -> Gtsi {
         Gtsi(ssi_of(group.0), extension_of(group.0))
     }
 }
 
 // A radio's number, both parts.
-// Stays: likewise.
 impl From<RadioKey> for Itsi {
     ghost from_gives = { λ k r. r ≡ radio_at k.0 };
 
@@ -119,6 +119,7 @@ pub fn group_in(asker: Itsi, identity: Identity) -> GroupKey
 }
 
 // The keys of a list; none where it is not given, or names too many.
+// Stays: one line, with the bound of groups and radios, as `too_many` and `too_many_owners` have theirs.
 pub fn keys_named<K: Key>(asker: Itsi, list: Option<Numbers>) -> Keys<K, MAX_NUMBERS>
     ensures { result ≡ keys_as (fitting max_numbers (numbers_in asker.1 (list_of list))) }
 {

@@ -20,6 +20,7 @@ fn wide(part: u32) -> bool
 }
 
 // Whether a radio's number that is handed over has a part above 24 bits.
+// Stays: a trait over both types of number would be longer than the two lines that it would join.
 pub fn wide_radio(radio: Itsi) -> bool
     ensures { result ≡ wide_number (radio_number radio) }
 {
@@ -27,7 +28,6 @@ pub fn wide_radio(radio: Itsi) -> bool
 }
 
 // Whether a group's number has.
-// Stays: a trait over both types of number would be longer than the two lines that it would join.
 pub fn wide_group(group: Gtsi) -> bool
     ensures { result ≡ wide_number (group_number group) }
 {
@@ -78,6 +78,7 @@ pub fn short(identity: Identity) -> bool
 }
 
 // Whether a bad identity is in use.
+// Stays: with the test passed on, the contract would have to name it through the closure, and the two lines would be no fewer.
 fn any_bad(numbers: &Numbers) -> bool
     ensures { result ≡ any bad_identity (used (numbers_of numbers.now)) }
 {
@@ -85,7 +86,6 @@ fn any_bad(numbers: &Numbers) -> bool
 }
 
 // Whether an SNA is.
-// Stays: a test that is passed on would stand in the contract in its place, and the two lines would be no fewer.
 fn any_short(numbers: &Numbers) -> bool
     ensures { result ≡ any short (used (numbers_of numbers.now)) }
 {

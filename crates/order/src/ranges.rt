@@ -64,7 +64,6 @@ pub fn too_many(asker: Itsi, list: Option<Numbers>) -> bool
 }
 
 // Whether a list of owners does.
-// Stays: which list has which bound is told here alone.
 pub fn too_many_owners(asker: Itsi, list: Option<Numbers>) -> bool
     ensures { result ≡ too_many max_listed_owners asker.1 (list_of list) }
 {

@@ -35,6 +35,7 @@ digits-small line at width taken h e =
     omega (arith, ap (λ (t : Taken ℕ). t.value) all.2)
   where
     digits-all : (b : Bool) → cond b (word_of 0 (slice at (at + width) line) (at + width)) None ≡ Some taken
-        → (b ≡ true) × (all_digits (slice at (at + width) line) ≡ true) × (record { value = hexadecimal 0 (slice at (at + width) line); next = at + width } ≡ taken)
+        → (b ≡ true) × (all_digits (slice at (at + width) line) ≡ true)
+        × (record { value = hexadecimal 0 (slice at (at + width) line); next = at + width } ≡ taken)
     digits-all true e = let t = cond_some (all_digits (slice at (at + width) line)) _ taken e in (refl, t.0, t.1)
     digits-all false e = absurd (none-some taken e)

@@ -1,8 +1,6 @@
 -- Each public function's contract allows one outcome: two results that meet it are equal.
-use mathlib.Core.Path.{◌≡◌, sym, ◌∙◌}
-use contract.Lifetimes.{Lfts}
-use borrow.Fn.Kinds.{Dens, res_t, ended_of}
-use denote.Triple.Clauses.{AtExit}
+use mathlib.Core.Path.{sym, ◌∙◌}
+use Rattle.order.proofs.Unique.{Unique}
 use Rattle.words.proofs.mark.Kinds as mark-kinds
 use Rattle.words.proofs.mark.Reads as mark
 use Rattle.words.proofs.digits.Kinds as digits-kinds
@@ -26,48 +24,35 @@ use Rattle.words.proofs.series.Reads as series
 use Rattle.words.proofs.series_or_none.Kinds as series-or-none-kinds
 use Rattle.words.proofs.series_or_none.Reads as series-or-none
 
-module _ (κs : Lfts 1) (a : Dens κs mark-kinds.ps) (r r' : (res_t mark-kinds.r κs).Denot) (s s' : AtExit (ended_of 1 mark-kinds.ps mark-kinds.r) κs) where
-  pub mark-unique : mark.Post κs a r s → mark.Post κs a r' s' → r ≡ r'
-  mark-unique p q = p ∙ sym q
+pub mark-unique : Unique mark-kinds.ps mark-kinds.r mark.Post
+mark-unique κs a r r' s s' p q = p ∙ sym q
 
-module _ (κs : Lfts 1) (a : Dens κs digits-kinds.ps) (r r' : (res_t digits-kinds.r κs).Denot) (s s' : AtExit (ended_of 1 digits-kinds.ps digits-kinds.r) κs) where
-  pub digits-unique : digits.Post κs a r s → digits.Post κs a r' s' → r ≡ r'
-  digits-unique p q = p ∙ sym q
+pub digits-unique : Unique digits-kinds.ps digits-kinds.r digits.Post
+digits-unique κs a r r' s s' p q = p ∙ sym q
 
-module _ (κs : Lfts 1) (a : Dens κs word-kinds.ps) (r r' : (res_t word-kinds.r κs).Denot) (s s' : AtExit (ended_of 1 word-kinds.ps word-kinds.r) κs) where
-  pub word-unique : word.Post κs a r s → word.Post κs a r' s' → r ≡ r'
-  word-unique p q = p ∙ sym q
+pub word-unique : Unique word-kinds.ps word-kinds.r word.Post
+word-unique κs a r r' s s' p q = p ∙ sym q
 
-module _ (κs : Lfts 1) (a : Dens κs number-kinds.ps) (r r' : (res_t number-kinds.r κs).Denot) (s s' : AtExit (ended_of 1 number-kinds.ps number-kinds.r) κs) where
-  pub number-unique : number.Post κs a r s → number.Post κs a r' s' → r ≡ r'
-  number-unique p q = p ∙ sym q
+pub number-unique : Unique number-kinds.ps number-kinds.r number.Post
+number-unique κs a r r' s s' p q = p ∙ sym q
 
-module _ (κs : Lfts 1) (a : Dens κs group-kinds.ps) (r r' : (res_t group-kinds.r κs).Denot) (s s' : AtExit (ended_of 1 group-kinds.ps group-kinds.r) κs) where
-  pub group-unique : group.Post κs a r s → group.Post κs a r' s' → r ≡ r'
-  group-unique p q = p ∙ sym q
+pub group-unique : Unique group-kinds.ps group-kinds.r group.Post
+group-unique κs a r r' s s' p q = p ∙ sym q
 
-module _ (κs : Lfts 1) (a : Dens κs room-kinds.ps) (r r' : (res_t room-kinds.r κs).Denot) (s s' : AtExit (ended_of 1 room-kinds.ps room-kinds.r) κs) where
-  pub room-unique : room.Post κs a r s → room.Post κs a r' s' → r ≡ r'
-  room-unique p q = p ∙ sym q
+pub room-unique : Unique room-kinds.ps room-kinds.r room.Post
+room-unique κs a r r' s s' p q = p ∙ sym q
 
-module _ (κs : Lfts 1) (a : Dens κs choice-kinds.ps) (r r' : (res_t choice-kinds.r κs).Denot) (s s' : AtExit (ended_of 1 choice-kinds.ps choice-kinds.r) κs) where
-  pub choice-unique : choice.Post κs a r s → choice.Post κs a r' s' → r ≡ r'
-  choice-unique p q = p ∙ sym q
+pub choice-unique : Unique choice-kinds.ps choice-kinds.r choice.Post
+choice-unique κs a r r' s s' p q = p ∙ sym q
 
-module _ (κs : Lfts 1) (a : Dens κs kind-kinds.ps) (r r' : (res_t kind-kinds.r κs).Denot) (s s' : AtExit (ended_of 1 kind-kinds.ps kind-kinds.r) κs) where
-  pub kind-unique : kind.Post κs a r s → kind.Post κs a r' s' → r ≡ r'
-  kind-unique p q = p ∙ sym q
+pub kind-unique : Unique kind-kinds.ps kind-kinds.r kind.Post
+kind-unique κs a r r' s s' p q = p ∙ sym q
 
-module _ (κs : Lfts 1) (a : Dens κs identity-kinds.ps) (r r' : (res_t identity-kinds.r κs).Denot)
-    (s s' : AtExit (ended_of 1 identity-kinds.ps identity-kinds.r) κs) where
-  pub identity-unique : identity.Post κs a r s → identity.Post κs a r' s' → r ≡ r'
-  identity-unique p q = p ∙ sym q
+pub identity-unique : Unique identity-kinds.ps identity-kinds.r identity.Post
+identity-unique κs a r r' s s' p q = p ∙ sym q
 
-module _ (κs : Lfts 1) (a : Dens κs series-kinds.ps) (r r' : (res_t series-kinds.r κs).Denot) (s s' : AtExit (ended_of 1 series-kinds.ps series-kinds.r) κs) where
-  pub series-unique : series.Post κs a r s → series.Post κs a r' s' → r ≡ r'
-  series-unique p q = p ∙ sym q
+pub series-unique : Unique series-kinds.ps series-kinds.r series.Post
+series-unique κs a r r' s s' p q = p ∙ sym q
 
-module _ (κs : Lfts 1) (a : Dens κs series-or-none-kinds.ps) (r r' : (res_t series-or-none-kinds.r κs).Denot)
-    (s s' : AtExit (ended_of 1 series-or-none-kinds.ps series-or-none-kinds.r) κs) where
-  pub series-or-none-unique : series-or-none.Post κs a r s → series-or-none.Post κs a r' s' → r ≡ r'
-  series-or-none-unique p q = p ∙ sym q
+pub series-or-none-unique : Unique series-or-none-kinds.ps series-or-none-kinds.r series-or-none.Post
+series-or-none-unique κs a r r' s s' p q = p ∙ sym q

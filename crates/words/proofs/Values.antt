@@ -61,7 +61,8 @@ module _ {line : List ℕ} {at width : ℕ} {text : List ℕ} {value i : ℕ} (r
     read_more {digit} e =
         let is = cond_some _ _ digit (sym e) in
         let below : digit < 16 = omega (arith, is.1, ltb-true (digit_value (get_or text i 0)) 16 is.0) in
-        let kept : value * 16 % 18446744073709551616 ≡ value * 16 = omega (arith, read.few, read.whole, pow_mono {i = 4 * i} {j = 60} (omega (arith, read.few, read.whole))) in
+        let most = pow_mono {i = 4 * i} {j = 60} (omega (arith, read.few, read.whole)) in
+        let kept : value * 16 % 18446744073709551616 ≡ value * 16 = omega (arith, read.small, most) in
         let more : bit_or (value * 16 % 18446744073709551616) digit ≡ value * 16 + digit = ap (λ n. bit_or n digit) kept ∙ or_shifted value 4 digit below in
         let bits : 4 * (i + 1) ≡ 4 * i + 4 = omega arith in
         record {

@@ -19,6 +19,7 @@ const MOST: usize = 10;
 const ROOM: u64 = 0x800;
 
 // A value, and the place behind it.
+// Stays: both are always there, and what was not taken is None.
 #[derive(Clone, Copy)]
 pub struct Taken<T> {
     pub value: T,
