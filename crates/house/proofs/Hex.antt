@@ -7,8 +7,9 @@ use native.Mathlib.Nat.{add-zero, zero-add, add-suc, suc-add, le_of_suc-le-suc, 
 use native.Mathlib.Numerals.{add-one}
 use native.Mathlib.Omega.{arith}
 use lib.Dec.{ltb}
-use lib.ListN.{length, get_or, drop, set}
-use lib.Seq.{drop-cons, sets}
+use lib.ListN.{length, get_or, take, drop, set}
+use lib.Seq.{drop-cons, drop-drop, get_or-take, get_or-drop, sets}
+use Rattle.std.specs.Simd.{first_chunks}
 use lib.Bits.{bit_or, or_lt, or_add_and, and_le_l, and_le_r, or_shifted}
 use borrow.Author.Tests.{lt-ltb, le-ltb, ltb-true, ltb-false}
 use Rattle.house.specs.Hex.{digit_value, all_digits, bytes_from}
@@ -26,6 +27,23 @@ tabled-at f (suc n) from (suc k) h = tabled-at f n (suc from) k (le_of_suc-le-su
 -- a table of `f` holds `f` of each place
 pub table_at : (f : ℕ → ℕ) (n : ℕ) {table : List ℕ} {place k : ℕ} → table ≡ tabled f 0 n → place ≡ k → k < n → get_or table place 0 ≡ f k
 table_at f n {k = k} e p h = rw (e, p) (tabled-at f n 0 k h ∙ ap f (zero-add k))
+
+-- the pair of characters at a place
+chunk-at : (k i : ℕ) (text none : List ℕ) → i < k → get_or (first_chunks 2 k text) i none ≡ take 2 (drop (2 * i) text)
+chunk-at zero i text none h = absurd (not-suc-le-zero h)
+chunk-at (suc k) zero text none h = refl
+chunk-at (suc k) (suc i) text none h =
+    let place : 2 + 2 * i ≡ 2 * suc i = omega arith in
+    chunk-at k i (drop 2 text) none (le_of_suc-le-suc h) ∙ ap (take 2) (drop-drop (2 * i) 2 text ∙ ap (λ n. drop n text) place)
+
+pub pair-at : (k i : ℕ) (text none : List ℕ) {pairs : List (List ℕ)} → pairs ≡ first_chunks 2 k text → i < k
+    → (get_or (get_or pairs i none) 0 0 ≡ get_or text (2 * i) 0) × (get_or (get_or pairs i none) 1 0 ≡ get_or text (2 * i + 1) 0)
+pair-at k i text none e h =
+    let pair = ap (λ (l : List (List ℕ)). get_or l i none) e ∙ chunk-at k i text none h in (
+      ap (λ (l : List ℕ). get_or l 0 0) pair ∙ get_or-take 2 (drop (2 * i) text) 0 0 (omega arith) ∙ get_or-drop (2 * i) text 0 0
+          ∙ ap (λ n. get_or text n 0) (add-zero (2 * i)),
+      ap (λ (l : List ℕ). get_or l 1 0) pair ∙ get_or-take 2 (drop (2 * i) text) 1 0 (omega arith) ∙ get_or-drop (2 * i) text 1 0,
+    )
 
 -- two more characters of a text, from an even place on
 two-more : (text : List ℕ) (i : ℕ) → 2 * i + 1 < length text → drop (2 * i) text ≡ get_or text (2 * i) 0 ∷ get_or text (2 * i + 1) 0 ∷ drop (2 * (i + 1)) text

@@ -65,9 +65,10 @@ fn take_bytes(text: &[u8], bytes: &mut [u8]) -> Option<()>
 {
     // 16 comes in with a character that is no digit, and stays.
     let mut seen = 0u8;
-    for i in 0..text.len() / 2 {
-        let high = value_of(text[2 * i]);
-        let low = value_of(text[2 * i + 1]);
+    let (pairs, _) = text.as_chunks::<2>();
+    for (i, pair) in pairs.iter().enumerate() {
+        let high = value_of(pair[0]);
+        let low = value_of(pair[1]);
         seen = seen | high | low;
         bytes[i] = high % 16 * 16 | low;
     }

@@ -11,6 +11,6 @@ use Rattle.house.proofs.take_bytes.Given as goal
 
 abbrev pub invariant-loop-i : goal.invariant-loop-i
 invariant-loop-i l = record {
-  decides : (ltb l.seen 16 && all_digits (drop (2 * l.i) l.text)) ≡ all_digits l.text;
-  stores : l.seen < 16 → sets l.bytes l.i (bytes_from (drop (2 * l.i) l.text)) ≡ sets l.initial.bytes 0 (bytes_from l.text);
+  decides : (ltb l.seen 16 && all_digits (drop (2 * l.i) l.fn.text)) ≡ all_digits l.fn.text;
+  stores : l.seen < 16 → sets l.bytes l.i (bytes_from (drop (2 * l.i) l.fn.text)) ≡ sets l.initial.bytes 0 (bytes_from l.fn.text);
 }
