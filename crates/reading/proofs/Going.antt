@@ -136,9 +136,10 @@ pub reading-lent : (kind : Kind) (bytes : List ℕ) (count : ℕ) → 8 * length
 unfolding reading_of read_bytes
 reading-lent kind bytes count h = rw (lt-ltb (8 * length bytes) count h)
 
-pub reading-on : (kind : Kind) (bytes : List ℕ) (count : ℕ) (s t : Result ℕ Refused)
-    → count ≤ 8 * length bytes → read kind (whole bytes count) ≡ onward (rows kind) (whole bytes count) [] s → s ≡ t
-    → as_reading (onward (rows kind) (whole bytes count) [] t) ≡ reading_of kind bytes count
+pub reading-enough : (kind : Kind) (bytes : List ℕ) (count : ℕ) → count ≤ 8 * length bytes → as_reading (read kind (whole bytes count)) ≡ reading_of kind bytes count
 unfolding reading_of read_bytes
-reading-on kind bytes count s t h e d =
-    ap as_reading (ap (onward (rows kind) (whole bytes count) []) (sym d) ∙ sym e) ∙ rw (le-ltb (8 * length bytes) count h)
+reading-enough kind bytes count h = rw (le-ltb (8 * length bytes) count h)
+
+pub reading-on : (kind : Kind) (bits : List Bool) (s t : Result ℕ Refused) → read kind bits ≡ onward (rows kind) bits [] s → s ≡ t
+    → as_reading (onward (rows kind) bits [] t) ≡ as_reading (read kind bits)
+reading-on kind bits s t e d = ap as_reading (ap (onward (rows kind) bits []) (sym d) ∙ sym e)
