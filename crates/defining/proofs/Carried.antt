@@ -59,13 +59,13 @@ module _ (c : Contents) (order come groups radios : List ℕ) (state : ℕ) (w :
 
   -- ---- the totals ----
 
-  made-total : length (made_groups come new groups (ledger_of c).groups) ≡ group_count c + new_groups (ledger_of c).groups groups
+  pub made-total : length (made_groups come new groups (ledger_of c).groups) ≡ group_count c + new_groups (ledger_of c).groups groups
   made-total =
       length-puts eqb eqb-true eqb_same (by_key ltb) (by_key_lem numbers-linear) (ledger_of c).groups groups made (groups-rise c w.sound)
       (once-unique groups w.groups_once)
       ∙ ap (λ (n : ℕ). n + new_groups (ledger_of c).groups groups) (count-groups c w.sound)
 
-  set-total : length (set_pairs state radios groups (ledger_of c).pairs) ≡ pair_count c + new_pairs (ledger_of c).pairs radios groups
+  pub set-total : length (set_pairs state radios groups (ledger_of c).pairs) ≡ pair_count c + new_pairs (ledger_of c).pairs radios groups
   set-total =
       length-puts same_pair pair-sound pair-itself (by_key below_pair) (by_key_lem pairs-linear) (ledger_of c).pairs (product groups radios) (λ k. fresh state)
       (pairs-rise c w.sound) (product-apart groups radios (once-unique groups w.groups_once) (once-unique radios w.radios_once))

@@ -51,12 +51,12 @@ use Rattle.store.specs.Form.{Sound}
 use Rattle.store.specs.Named.{group_fault}
 use Rattle.store.specs.declared.Standing.TheVariants.{Taken}
 use Rattle.replies.specs.Orders.{reply_of, verdict}
-use Rattle.replies.specs.declared.Reply.TheVariants.{Done, Refused}
+use Rattle.std.specs.Prelude.{Ok, Err}
 use Rattle.replies.proofs.Orders.{reply-none, form-refuses, stand-tells}
 use Rattle.making.specs.Owners.{owner_total}
 use Rattle.making.proofs.Standing.{formed}
 use Rattle.making.proofs.OrderRows.{order-group}
-use Rattle.defining.specs.Parts.{faults_of, owners_named}
+use Rattle.defining.specs.Parts.{any_untaken, any_crossed, any_many, owners_named}
 use Rattle.defining.specs.Carried.{carried}
 use Rattle.defining.specs.Pairs.{set_pairs}
 use Rattle.defining.specs.Sent.{assign_orders}
@@ -69,7 +69,7 @@ pub record Whole (o : Define) : Type 0 where
   pub radios : fitting max_numbers (define_radios o) ≡ define_radios o
   pub owners : rising (owners_named o) ≡ rising (define_owners o)
 
-few-whole : (o : Define) → (faults_of o).many ≡ false → Whole o
+few-whole : (o : Define) → any_many o.asker.extension o.groups o.owners o.radios ≡ false → Whole o
 few-whole o e =
     let home = o.asker.extension in
     let many_groups = too_many max_numbers home o.groups in
@@ -132,22 +132,22 @@ module _ (c : Contents) (w : Sound c) (asker : Itsi) (k : RadioKey) (same : k.0 
       (numbers-once o.asker.extension o.radios) in
       λ i.
       (BadOrder, bad-order (radio_number asker) values whole i)
-      ∷ (FormNotTaken, o.call || (faults_of o).untaken)
-      ∷ (BadRange, (faults_of o).crossed)
-      ∷ (TooManyNumbers, (faults_of o).many)
+      ∷ (FormNotTaken, o.call || any_untaken o.groups o.owners o.radios)
+      ∷ (BadRange, any_crossed o.asker.extension o.groups o.owners o.radios)
+      ∷ (TooManyNumbers, any_many o.asker.extension o.groups o.owners o.radios)
       ∷ (NotOwner, any (λ g. group_fault Taken (find eqb l.groups g) (sym same i)) (define_groups o))
       ∷ (TooManyOwners, owners-tested i)
       ∷ (Full, ltb max_groups (n i) || ltb max_pairs (m i))
       ∷ (NoRoom, ltb room (length-orders assign (define_groups o) (define_radios o) i))
       ∷ []
 
-  pub form-refused : (r : Refusal) → Refused r ≡ reply_of (first form) → Refused r ≡ reply_of (verdict c (define_step asker values room))
+  pub form-refused : (r : Refusal) → Err r ≡ reply_of (first form) → Err r ≡ reply_of (verdict c (define_step asker values room))
   form-refused r e = form-refuses c w (define_step asker values room) form stand define-tests r e
 
-  pub stand-replies : Done ≡ reply_of (first form) → reply_of (first stand) ≡ reply_of (verdict c (define_step asker values room))
+  pub stand-replies : Ok tt ≡ reply_of (first form) → reply_of (first stand) ≡ reply_of (verdict c (define_step asker values room))
   stand-replies e = stand-tells c w (define_step asker values room) form stand define-tests e
 
-  pub form-whole : Done ≡ reply_of (first form) → Whole o
+  pub form-whole : Ok tt ≡ reply_of (first form) → Whole o
   form-whole e = few-whole o (tests-pass form (reply-none (first form) e) 3)
 
 -- ---- the row that is read says the parameters that the order gives, and the state is the law's ----

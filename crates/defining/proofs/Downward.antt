@@ -6,7 +6,8 @@ use Prim.Native.Nat.{ℕ, suc, ◌+◌, ◌-◌, ◌≤◌, ◌<◌}
 use native.Mathlib.Numerals.{add-one}
 use native.Mathlib.Omega.{arith}
 use lib.ListN.{length, get_or, set, take, drop, length-append, length-take, length-drop, length-map, take-append-drop, drop_of_length-le}
-use lib.Seq.{take-suc, take_all, take-take, drop_at, take-append-le, length-take-le, drop-append-le, get_or-take}
+use lib.Seq.{paste, take-suc, take_all, take-take, drop_at, take-append-le, length-take-le, drop-append-le, get_or-take}
+use Rattle.std.proofs.lemmas.List.{drop-take}
 use Rattle.rules.specs.Lists.{rises}
 use Rattle.rules.specs.Entries.{find, entry}
 use Rattle.rules.specs.Placing.{puts}
@@ -22,20 +23,18 @@ use Rattle.order.proofs.Moves.{moved-set}
 use Rattle.store.specs.Lists.{Plain}
 use Rattle.store.specs.Places.{place_of, index_of, behind_of}
 use Rattle.store.proofs.Rows.{plain_rows}
-use Rattle.store.specs.declared.Place.{Place}
-use Rattle.defining.specs.Putting.{step_after, Opens, Puts, Takes}
-use Rattle.defining.specs.declared.Step.{Step}
+use Rattle.std.specs.Prelude.{Result}
+use Rattle.defining.specs.Putting.{Opens, Puts, Takes}
+use Rattle.defining.specs.declared.putting.Step.{Step}
 use Rattle.store.proofs.Parting.{Parted, parted}
 
--- a row put at the place that was found
-pub row_put : (place found : Place) → found ≡ place → (left by from : ℕ) → from ≡ behind_of found → (row_at : Place → List ℕ) (row : List ℕ) → row ≡ row_at found
-    → (before middle : List (List ℕ)) → middle ≡ moved by from left before → (step : Step) → step ≡ step_after found (from + by - 1)
-    → Puts place left by (row_at place) before (set middle (from + by - 1) row) step
-row_put place found e left by from f row_at row r before middle m step t =
-    subst (λ (p : Place). Puts p left by (row_at p) before (set middle (from + by - 1) row) step) e (record {
-      rows = (λ i. set (m i) (from + by - 1) (r i)) ∙ ap (λ (n : ℕ). set (moved by n left before) (n + by - 1) (row_at found)) f;
-      steps = t ∙ ap (λ (n : ℕ). step_after found (n + by - 1)) f;
-    })
+-- a copy of those from place i to place n moves them up
+pub copied-moved : {A : Type 0} (by i n : ℕ) (l : List A) → i ≤ n → paste l (i + by) (drop i l) (n - i) ≡ moved by i n l
+copied-moved by i n l h =
+    let k : i + (n - i) ≡ n = omega arith in
+    let m : i + by + (n - i) ≡ n + by = omega arith in
+    let e : take (n - i) (drop i l) ≡ drop i (take n l) = sym (drop-take i (n - i) l) ∙ ap (λ (j : ℕ). drop i (take j l)) k in
+    append_assoc (take (i + by) l) (take (n - i) (drop i l)) (drop (i + by + (n - i)) l) ∙ (λ t. take (i + by) l ++ (e t ++ drop (m t) l))
 
 -- ---- lists ----
 
@@ -185,7 +184,7 @@ module _ {K X : Type 0} {same below : K → K → Bool} (o : Linear same below) 
             (climbs-last below (take j ks) k (rw keys at front)).0
 
         -- the key among the entries that stand, by its place
-        abbrev place : Place
+        abbrev place : Result ℕ ℕ
         place = place_of below same (take left entries) k
 
         w : Parted o k (take left entries) place

@@ -21,8 +21,8 @@ use Rattle.rows.specs.Layout.{group_words}
 use Rattle.order.specs.Row.{order_row_of}
 use Rattle.store.specs.Lists.{Plain}
 use Rattle.store.specs.Storage.{Rows, placing, group_of, group_row, groups_of}
-use Rattle.store.specs.declared.Place.{Place}
-use Rattle.store.specs.declared.Place.TheVariants.{At, Free}
+use Rattle.std.specs.Prelude.{Result}
+use Rattle.std.specs.Prelude.{Ok, Err}
 use Rattle.store.proofs.Rows.{length-items}
 use Rattle.store.proofs.HalvingLaws.{item-at}
 use Rattle.store.proofs.Parting.{Parted}
@@ -56,7 +56,7 @@ module _ (l : List (ℕ × Group)) (named come : List ℕ) (w : Grows l named co
     says : group_of (get_or rows i []) ≡ (g, group)
     found : find eqb l g ≡ some group
 
-  own : (i : ℕ) → Parted numbers-linear g (groups_of left rows) (At i) → Own i
+  own : (i : ℕ) → Parted numbers-linear g (groups_of left rows) (Ok i) → Own i
   own i p = go (find eqb (groups_of left rows) g) refl p.stands
     where
       n : length (groups_of left rows) ≡ left
@@ -72,9 +72,9 @@ module _ (l : List (ℕ × Group)) (named come : List ℕ) (w : Grows l named co
           (length-take-le i (groups_of left rows) (omega (arith, n))) in
           record { inside = inside; group = x; says = sym (item-at group_of rows left i inside) ∙ at; found = sym same ∙ q }
 
-  pub row_fits : (place : Place) → Parted numbers-linear g (groups_of left rows) place → Fits place rows come
-  row_fits (Free i) p = tt
-  row_fits (At i) p =
+  pub row_fits : (place : Result ℕ ℕ) → Parted numbers-linear g (groups_of left rows) place → Fits place rows come
+  row_fits (Err i) p = tt
+  row_fits (Ok i) p =
       let r = own i p in
       let os = ap (λ (e : ℕ × Group). e.1.owners) r.says in
       record {
@@ -99,11 +99,11 @@ module _ (l : List (ℕ × Group)) (named come : List ℕ) (w : Grows l named co
       ∙ ap (λ (os : List ℕ). group_row (g, record { owners = os; parameters = replaced new no_parameters })) (sym (rising-same come w.rises))
       ∙ ap (λ (v : Option Group). group_row (g, group_after placing (added come) new v)) (sym q)
 
-  pub row_made : (place : Place) → Parted numbers-linear g (groups_of left rows) place
+  pub row_made : (place : Result ℕ ℕ) → Parted numbers-linear g (groups_of left rows) place
       → row_for place g order come rows ≡ group_row (g, made_group come new l g)
-  row_made (Free i) p = made-first (sym same ∙ missing (find eqb (groups_of left rows) g) p.stands)
+  row_made (Err i) p = made-first (sym same ∙ missing (find eqb (groups_of left rows) g) p.stands)
     where
       missing : (v : Option Group) → false ≡ present v → v ≡ none
       missing none e = refl
       missing (some x) e = absurd (true≢false (sym e))
-  row_made (At i) p = made-anew i (own i p)
+  row_made (Ok i) p = made-anew i (own i p)

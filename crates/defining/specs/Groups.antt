@@ -11,8 +11,8 @@ use Rattle.rules.specs.Ledger.{Group}
 use Rattle.rules.specs.Steps.{group_after}
 use Rattle.rows.specs.Layout.{group_words}
 use Rattle.store.specs.Storage.{Rows, placing, group_of, group_row}
-use Rattle.store.specs.declared.Place.{Place}
-use Rattle.store.specs.declared.Place.TheVariants.{At, Free}
+use Rattle.std.specs.Prelude.{Result}
+use Rattle.std.specs.Prelude.{Ok, Err}
 use Rattle.making.specs.Row.{made_row}
 use Rattle.making.specs.Fine.{Fine}
 
@@ -24,9 +24,9 @@ abbrev pub made_groups : List ℕ → Parameters → List ℕ → List (ℕ × G
 made_groups come new groups l = puts (by_key ltb) l groups (made_group come new l)
 
 -- its row: made anew from the row that stands at its place, or made from none
-abbrev pub row_for : Place → ℕ → List ℕ → List ℕ → Rows → List ℕ
-row_for (At i) g order come rows = made_row g order (get_or rows i []) (rising ((group_of (get_or rows i [])).1.owners ++ come))
-row_for (Free i) g order come rows = made_row g order (replicate group_words 0) come
+abbrev pub row_for : Result ℕ ℕ → ℕ → List ℕ → List ℕ → Rows → List ℕ
+row_for (Ok i) g order come rows = made_row g order (get_or rows i []) (rising ((group_of (get_or rows i [])).1.owners ++ come))
+row_for (Err i) g order come rows = made_row g order (replicate group_words 0) come
 
 -- the groups that stand, those named, and the owners who come to them: rows have room for all
 pub record Grows (l : List (ℕ × Group)) (named come : List ℕ) : Type 0 where

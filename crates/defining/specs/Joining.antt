@@ -3,8 +3,8 @@ use Rattle.std.specs.Prelude.{ℕ, ◌≤◌, List, [], ◌++◌, length, get_or
 use Rattle.rules.specs.Lists.{rising, Rising}
 use Rattle.rules.specs.Owners.{max_owners}
 use Rattle.store.specs.Storage.{Rows, group_of}
-use Rattle.store.specs.declared.Place.{Place}
-use Rattle.store.specs.declared.Place.TheVariants.{At, Free}
+use Rattle.std.specs.Prelude.{Result}
+use Rattle.std.specs.Prelude.{Ok, Err}
 
 -- the owners of a row rise, and have room together with those who come
 pub record Joins (row come : List ℕ) : Type 0 where
@@ -12,6 +12,6 @@ pub record Joins (row come : List ℕ) : Type 0 where
   pub few : length (rising ((group_of row).1.owners ++ come)) ≤ max_owners
 
 -- so of the row that stands at a place
-abbrev pub Fits : Place → Rows → List ℕ → Type 0
-Fits (At i) rows come = Joins (get_or rows i []) come
-Fits (Free i) rows come = Unit {0}
+abbrev pub Fits : Result ℕ ℕ → Rows → List ℕ → Type 0
+Fits (Ok i) rows come = Joins (get_or rows i []) come
+Fits (Err i) rows come = Unit {0}

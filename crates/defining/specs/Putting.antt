@@ -7,22 +7,22 @@ use Rattle.order.specs.Walks.{moved}
 use Rattle.store.specs.Lists.{Plain}
 use Rattle.store.specs.Places.{index_of, behind_of}
 use Rattle.store.specs.Storage.{Rows}
-use Rattle.store.specs.declared.Place.{Place}
-use Rattle.defining.specs.declared.Step.{Step}
+use Rattle.std.specs.Prelude.{Result}
+use Rattle.defining.specs.declared.putting.Step.{Step}
 
 -- the row at `at` is done; those before the place stand as they were
-abbrev pub step_after : Place → ℕ → Step
+abbrev pub step_after : Result ℕ ℕ → ℕ → Step
 step_after place at = record { left = index_of place; by = at - index_of place }
 
 -- there is room for a row at its place, among `left` rows that stand, when those behind it move up by so many places
-pub record Opens (place : Place) (left by : ℕ) (rows : Rows) : Type 0 where
+pub record Opens {A : Type 0} (place : Result ℕ ℕ) (left by : ℕ) (rows : List A) : Type 0 where
   pub few : left ≤ max_pairs
   pub inside : behind_of place ≤ left
   pub room : left + by ≤ length rows
   pub opens : index_of place < behind_of place + by
 
 -- the rows behind the place have moved up, and the row stands before them
-pub record Puts (place : Place) (left by : ℕ) (row : List ℕ) (before after : Rows) (step : Step) : Type 0 where
+pub record Puts {A : Type 0} (place : Result ℕ ℕ) (left by : ℕ) (row : A) (before after : List A) (step : Step) : Type 0 where
   pub rows : after ≡ set (moved by (behind_of place) left before) (behind_of place + by - 1) row
   pub steps : step ≡ step_after place (behind_of place + by - 1)
 

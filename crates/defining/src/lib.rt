@@ -4,6 +4,7 @@
 mod carrying;
 mod grouping;
 mod joining;
+mod ordered;
 mod outgoing;
 mod pairing;
 mod parts;
@@ -23,15 +24,9 @@ use frame::Record;
 use order::Itsi;
 use order::record::first_state;
 use order::row::order_row;
-use replies::{Reply, Sent};
+use refusal::Refusal;
 use rows::{GROUP_WORDS, ORDER_WORDS, PAIR_WORDS};
-
-// How far rows are put, from the last down: so many stand as they were before the last that was put, and so many new ones come among them.
-#[derive(Clone, Copy)]
-struct Step {
-    left: usize,
-    by: usize,
-}
+use store::form::Lent;
 
 // A define: the named groups are made or changed, and the listed radios assigned to them.
 pub fn define(
@@ -41,30 +36,21 @@ pub fn define(
     asker: Itsi,
     values: Record,
     out: &mut [[u64; ORDER_WORDS]],
-) -> Sent
+) -> Result<usize, Refusal>
     ensures { Sends (define_step asker values.place) out.old out.new
         (contents head.old groups.old pairs.old)
         (contents head.new groups.new pairs.new) result }
 {
     let place = values.place;
     let parts = parts_of(asker, place);
-    let fault = define_fault(head, groups, pairs, asker, place, parts, out.len());
-    if let Reply::Refused(refusal) = fault {
-        return Sent::Refused(refusal);
-    }
-    let named = parts.named;
-    let radios = parts.radios;
-    let row = order_row(place);
-    let sent = assign_orders(named, radios, out);
-    carry_out(
+    let lent = Lent {
         head,
         groups,
         pairs,
-        named,
-        radios,
-        row,
-        parts.owners,
-        first_state(place),
-    );
-    Sent::Orders(sent)
+    };
+    define_fault(lent, asker, place, &parts, out.len())?;
+    let sent = assign_orders(&parts.named, &parts.radios, out);
+    let row = order_row(place);
+    carry_out(head, groups, pairs, &parts, row, first_state(place));
+    Ok(sent)
 }

@@ -1,39 +1,20 @@
 // Pairs set by a define.
-ghost use Rattle.std.specs.Prelude.{◌+◌, ◌≤◌, ltb, length, true, map, ◌≡◌};
+ghost use Rattle.std.specs.Prelude.{ltb, map, true, ◌≡◌};
 ghost use Rattle.rules.specs.ByNumber.{below_pair};
 ghost use Rattle.rules.specs.Ledger.{same_pair};
 ghost use Rattle.rules.specs.Lists.{rises};
 ghost use Rattle.rules.specs.Mark.{fresh};
-ghost use Rattle.order.specs.Keys.{group_keys, radio_keys};
-ghost use Rattle.order.specs.Walks.{moved, onto};
+ghost use Rattle.order.specs.Keys.{keys_held};
+ghost use Rattle.order.specs.Walks.{onto};
 ghost use Rattle.store.specs.Places.{place_of};
 ghost use Rattle.store.specs.Storage.{pair_of, pair_row, pairs_of};
 ghost use Rattle.defining.specs.Pairs.{set_pairs};
 ghost use Rattle.defining.specs.Putting.{Opens, Puts, Takes};
 
-use crate::Step;
-use crate::putting::{behind, step_after};
-use order::keys::{group_at, group_count, radio_at, radio_count};
+use crate::putting::Step;
 use order::{GroupKey, Groups, RadioKey, Radios};
 use rows::PAIR_WORDS;
-use store::Place;
-use store::places::pair_place;
-
-// The pairs from `from` to `to` move up by so many places.
-fn move_pairs(pairs: &mut [[u64; PAIR_WORDS]], from: usize, to: usize, by: usize)
-    requires { (from ≤ to) × (to + by ≤ length pairs.old) }
-    ensures { pairs.new ≡ moved by from to pairs.old }
-{
-    if by == 0 {
-        return;
-    }
-    let mut i = to;
-    while from < i {
-        i -= 1;
-        let row = pairs[i];
-        pairs[i + by] = row;
-    }
-}
+use store::places::place;
 
 // A pair is set among those that stand as they were.
 fn set_pair(
@@ -47,44 +28,33 @@ fn set_pair(
     ensures { Puts (place_of below_pair same_pair (pairs_of step.left pairs.old) (group.0, radio.0)) step.left step.by
         (pair_row ((group.0, radio.0), fresh state)) pairs.old pairs.new result }
 {
-    let left = step.left;
-    let by = step.by;
-    let place = pair_place(pairs, left, group, radio);
-    let from = behind(place);
-    move_pairs(pairs, from, left, by);
-    let at = from + by - 1;
-    pairs[at] = [group.0, radio.0, state, 0];
-    step_after(place, at)
+    let place = place(&pairs[..step.left], (group, radio));
+    step.put(pairs, place, [group.0, radio.0, state, 0])
 }
 
 // Each radio of a rising list is set with each group of a rising list, from the last pair down; `more` of them are new.
+// Stays: a slice and a count, as what stands behind the pairs in use is lent too, and stays as it was.
 pub fn set_all(
     pairs: &mut [[u64; PAIR_WORDS]],
     count: usize,
     more: usize,
-    named: Groups,
-    radios: Radios,
+    named: &Groups,
+    radios: &Radios,
     state: u64,
 )
-    requires { Takes below_pair pair_of pair_row (set_pairs state (radio_keys radios) (group_keys named) (pairs_of count pairs.old)) pairs.old count more
-        × (rises ltb (group_keys named) ≡ true) × (rises ltb (radio_keys radios) ≡ true) }
+    requires { Takes below_pair pair_of pair_row (set_pairs state (keys_held radios.now) (keys_held named.now) (pairs_of count pairs.old)) pairs.old count more
+        × (rises ltb (keys_held named.now) ≡ true) × (rises ltb (keys_held radios.now) ≡ true) }
     ensures { pairs.new ≡
-        onto (map pair_row (set_pairs state (radio_keys radios) (group_keys named) (pairs_of count pairs.old))) pairs.old }
+        onto (map pair_row (set_pairs state (keys_held radios.now) (keys_held named.now) (pairs_of count pairs.old))) pairs.old }
 {
-    let width = radio_count(radios);
+    let width = radios.len();
     let mut step = Step {
         left: count,
         by: more,
     };
-    let mut j = group_count(named) * width;
-    while 0 < j {
-        j -= 1;
-        step = set_pair(
-            pairs,
-            step,
-            group_at(named, j / width),
-            radio_at(radios, j % width),
-            state,
-        );
+    for j in (0..named.len()).rev() {
+        for k in (0..width).rev() {
+            step = set_pair(pairs, step, named.at(j), radios.at(k), state);
+        }
     }
 }

@@ -2,40 +2,49 @@
 ghost use Rattle.std.specs.Prelude.{◌≤◌, ◌≡◌};
 ghost use Rattle.rules.specs.Refusals.{max_pairs};
 ghost use Rattle.store.specs.Places.{index_of, behind_of};
-ghost use Rattle.defining.specs.Putting.{step_after};
-
-use crate::Step;
-use store::Place;
+ghost use Rattle.defining.specs.Putting.{Opens, Puts};
 
 // The place itself, whether it is taken or free.
-pub fn index(place: Place) -> usize
+fn index(place: Result<usize, usize>) -> usize
     ensures { result ≡ index_of place }
 {
     match place {
-        Place::At(i) => i,
-        Place::Free(i) => i,
+        Ok(i) | Err(i) => i,
     }
 }
 
 // Where the rows behind a place begin: behind the row that stands there, or at the place.
-pub fn behind(place: Place) -> usize
+fn behind(place: Result<usize, usize>) -> usize
     requires { behind_of place ≤ max_pairs }
     ensures { result ≡ behind_of place }
 {
     match place {
-        Place::At(i) => i + 1,
-        Place::Free(i) => i,
+        Ok(i) => i + 1,
+        Err(i) => i,
     }
 }
 
-// How far it has come once a row was put at `at` for this place.
-pub fn step_after(place: Place, at: usize) -> Step
-    requires { index_of place ≤ at }
-    ensures { result ≡ step_after place at }
-{
-    let left = index(place);
-    Step {
-        left,
-        by: at - left,
+// How far rows are put, from the last down: so many stand as they were before the last that was put, and so many new ones come among them.
+#[derive(Clone, Copy)]
+pub struct Step {
+    pub left: usize,
+    pub by: usize,
+}
+
+impl Step {
+    // A row is put at its place among those that stand as they were; what stands behind the place moves up first, once.
+    pub fn put<R: Copy>(self, rows: &mut [R], place: Result<usize, usize>, row: R) -> Step
+        requires { Opens place self.left self.by rows.old }
+        ensures { Puts place self.left self.by row rows.old rows.new result }
+    {
+        let left = index(place);
+        let from = behind(place);
+        rows.copy_within(from..self.left, from + self.by);
+        let at = from + self.by - 1;
+        rows[at] = row;
+        Step {
+            left,
+            by: at - left,
+        }
     }
 }

@@ -6,6 +6,7 @@ use mathlib.Core.Bool.{true}
 use mathlib.Core.List.{List, map}
 use mathlib.Core.Option.{none}
 use lib.ListN.{length, length-take}
+use Rattle.std.specs.Prelude.{Err}
 use Rattle.rules.specs.Lists.{rising}
 use Rattle.rules.specs.Named.{max_numbers}
 use Rattle.rules.specs.Order.{define, define_groups, define_radios, define_owners}
@@ -18,8 +19,8 @@ use Rattle.rules.specs.Owners.{max_owners}
 use Rattle.rules.proofs.ListLaws.{unique-once}
 use Rattle.rules.proofs.Steps.{numbers-once}
 use Rattle.order.specs.Numbers.{radio_number}
-use Rattle.order.specs.Keys.{fitting, group_keys, radio_keys, owners_held}
-use Rattle.order.proofs.KeyLaws.{group-keys, radio-keys, owners-held}
+use Rattle.order.specs.Keys.{fitting, keys_held}
+use Rattle.order.proofs.KeyLaws.{keys-held}
 use Rattle.order.specs.Walks.{onto}
 use Rattle.store.specs.Storage.{placing, contents, group_of, ledger_of, laid}
 use Rattle.store.specs.Form.{is_written, Sound}
@@ -34,13 +35,13 @@ use Rattle.defining.proofs.Standing.{define-grows}
 use Rattle.defining.proofs.Defining.{Passed, define-passed, parameters-said, state-said, carried-law}
 use borrow.Author.Rules.{rules}
 use Rattle.defining.proofs.define.Goals as goal
-use Rattle.defining.proofs.define.Goals.{In_default, After-first_state}
+use Rattle.defining.proofs.define.Goals.{In_ok-define_fault, After-first_state}
 
 -- a define that is not refused finds the contents in their form
-sound : (c : In_default) → let a = c.args in Sound (contents a.head.now a.groups.now a.pairs.now)
-sound c = c.define_fault-fault.ensures.sound c.in_default.is
+sound : (c : In_ok-define_fault) → let a = c.args in Sound (contents a.head.now a.groups.now a.pairs.now)
+sound c = c.define_fault.ensures.sound c.in_ok-define_fault.was
 
-taken : (c : In_default) →
+taken : (c : In_ok-define_fault) →
     let a = c.args in
     let x = contents a.head.now a.groups.now a.pairs.now in
     (is_written x ≡ true) × (refused placing (ledger_of x) (define (define_of (radio_number a.asker) a.values.place) (length a.out.now)) ≡ none)
@@ -48,10 +49,10 @@ taken c =
     let a = c.args in
     let x = contents a.head.now a.groups.now a.pairs.now in
     taken_step x (define (define_of (radio_number a.asker) a.values.place) (length a.out.now))
-    (sym c.in_default.is ∙ c.define_fault-fault.ensures.judges)
+    (sym c.in_ok-define_fault.was ∙ c.define_fault.ensures.judges)
 
 -- and room for what it makes and sends
-passed : (c : In_default) →
+passed : (c : In_ok-define_fault) →
     let a = c.args in
     let l = ledger_of (contents a.head.now a.groups.now a.pairs.now) in
     let o = define_of (radio_number a.asker) a.values.place in
@@ -61,34 +62,34 @@ passed c =
     define-passed (ledger_of (contents a.head.now a.groups.now a.pairs.now)) a.asker a.values.place (length a.out.now) (taken c).1
 
 -- the groups, the radios and the owners are those of the order
-these : (c : In_default) → group_keys c.parts_of-parts.result.named ≡ define_groups (define_of (radio_number c.args.asker) c.args.values.place)
+these : (c : In_ok-define_fault) → keys_held c.parts_of-parts.result.named ≡ define_groups (define_of (radio_number c.args.asker) c.args.values.place)
 these c =
     let o = define_of (radio_number c.args.asker) c.args.values.place in
-    ap (λ (p : Parts). group_keys p.named) c.parts_of-parts.ensures ∙ group-keys (fitting max_numbers (define_groups o)) ∙ (passed c).whole.groups
+    ap (λ (p : Parts). keys_held p.named) c.parts_of-parts.ensures ∙ keys-held max_numbers (fitting max_numbers (define_groups o)) ∙ (passed c).whole.groups
 
-those : (c : In_default) → radio_keys c.parts_of-parts.result.radios ≡ define_radios (define_of (radio_number c.args.asker) c.args.values.place)
+those : (c : In_ok-define_fault) → keys_held c.parts_of-parts.result.radios ≡ define_radios (define_of (radio_number c.args.asker) c.args.values.place)
 those c =
     let o = define_of (radio_number c.args.asker) c.args.values.place in
-    ap (λ (p : Parts). radio_keys p.radios) c.parts_of-parts.ensures ∙ radio-keys (fitting max_numbers (define_radios o)) ∙ (passed c).whole.radios
+    ap (λ (p : Parts). keys_held p.radios) c.parts_of-parts.ensures ∙ keys-held max_numbers (fitting max_numbers (define_radios o)) ∙ (passed c).whole.radios
 
-owners : (c : In_default) →
-    owners_held c.parts_of-parts.result.owners ≡ rising (define_owners (define_of (radio_number c.args.asker) c.args.values.place))
+owners : (c : In_ok-define_fault) →
+    keys_held c.parts_of-parts.result.owners ≡ rising (define_owners (define_of (radio_number c.args.asker) c.args.values.place))
 owners c =
     let o = define_of (radio_number c.args.asker) c.args.values.place in
-    ap (λ (p : Parts). owners_held p.owners) c.parts_of-parts.ensures ∙ owners-held (rising (owners_named o)) ∙ (passed c).whole.owners
+    ap (λ (p : Parts). keys_held p.owners) c.parts_of-parts.ensures ∙ keys-held max_owners (rising (owners_named o)) ∙ (passed c).whole.owners
 
 -- the owners fit a row
-few : (c : In_default) → length (owners_held c.parts_of-parts.result.owners) ≤ max_owners
+few : (c : In_ok-define_fault) → length (keys_held c.parts_of-parts.result.owners) ≤ max_owners
 few c =
     let os = c.parts_of-parts.result.owners in
     let n : length os.key ≡ max_owners = search rules in
     omega (arith, length-take os.count os.key)
 
 -- what is sent is what the law sends
-sent : (c : In_default) →
+sent : (c : In_ok-define_fault) →
     let p = c.parts_of-parts.result in
     let o = define_of (radio_number c.args.asker) c.args.values.place in
-    assign_orders (radio_keys p.radios) (group_keys p.named) ≡ assign_orders (define_radios o) (define_groups o)
+    assign_orders (keys_held p.radios) (keys_held p.named) ≡ assign_orders (define_radios o) (define_groups o)
 sent c = let gs = these c in let rs = those c in λ i. assign_orders (rs i) (gs i)
 
 -- what is carried out is what the law leaves
@@ -99,9 +100,9 @@ law : (c : After-first_state) →
     let l = ledger_of x in
     let o = define_of (radio_number a.asker) a.values.place in
     let left = apply placing l (effect (view l) (define o (length a.out.now))) in
-    Sound x → Passed a.values.place left o (length a.out.now) → owners_held p.owners ≡ rising (define_owners o)
-    → group_keys p.named ≡ define_groups o → radio_keys p.radios ≡ define_radios o
-    → carried (owners_held p.owners) (group_of c.order_row-row.result).1.parameters (group_keys p.named) (radio_keys p.radios) c.first_state.result x ≡ left
+    Sound x → Passed a.values.place left o (length a.out.now) → keys_held p.owners ≡ rising (define_owners o)
+    → keys_held p.named ≡ define_groups o → keys_held p.radios ≡ define_radios o
+    → carried (keys_held p.owners) (group_of c.order_row-row.result).1.parameters (keys_held p.named) (keys_held p.radios) c.first_state.result x ≡ left
 law c w k os gs rs =
     let a = c.args in
     let x = contents a.head.now a.groups.now a.pairs.now in
@@ -112,23 +113,25 @@ law c w k os gs rs =
     let state = c.first_state.ensures ∙ state-said a.asker a.values.place l (length a.out.now) in
     (λ i. carried (os i) (new i) (gs i) (rs i) (state i) x) ∙ carried-law x w o (length a.out.now)
 
-pub returns-in-Refused : goal.returns-in-Refused
-returns-in-Refused c =
+pub returns-in_err-define_fault : goal.returns-in_err-define_fault
+returns-in_err-define_fault c =
     let a = c.args in
     let x = contents a.head.now a.groups.now a.pairs.now in
     let o = define_of (radio_number a.asker) a.values.place in
-    let t = sent-refused x (define o (length a.out.now)) _ (sym c.in-Refused.is ∙ c.define_fault-fault.ensures.judges) in
-    record { replies = t.0; leaves = t.1; sends = rw t.2 }
+    let r = c.in_err-define_fault.field-0.0 in
+    let back : c.from_residual.result ≡ Err r = search rules in
+    let t = sent-refused x (define o (length a.out.now)) r (sym c.in_err-define_fault.was ∙ c.define_fault.ensures.judges) in
+    record { replies = back ∙ t.0; leaves = t.1; sends = rw t.2 }
 
 pub assign_orders-sent-requires : goal.assign_orders-sent-requires
 assign_orders-sent-requires c =
-    let q = (goal.at.assign_orders-sent-requires c).In_default in
+    let q = (goal.at.assign_orders-sent-requires c).In_ok-define_fault in
     rw (sent q) (passed q).sends
 
 pub carry_out-requires : goal.carry_out-requires
 carry_out-requires c =
     let d = goal.at.carry_out-requires c in
-    let q = d.In_default in
+    let q = d.In_ok-define_fault in
     let a = c.args in
     let x = contents a.head.now a.groups.now a.pairs.now in
     let o = define_of (radio_number a.asker) a.values.place in
@@ -146,7 +149,7 @@ carry_out-requires c =
 pub returns : goal.returns
 returns c =
     let d = goal.at.returns c in
-    let q = d.In_default in
+    let q = d.In_ok-define_fault in
     let a = c.args in
     let x = contents a.head.now a.groups.now a.pairs.now in
     let o = define_of (radio_number a.asker) a.values.place in

@@ -1,26 +1,33 @@
 -- `defining::assign_orders` meets its contract: the orders to the groups passed stand at the front of the room.
-use mathlib.Core.Path.{◌≡◌, sym, ap, ◌∙◌}
+use mathlib.Core.Path.{refl, ap}
+use mathlib.Core.List.{List}
 use native.Mathlib.Omega.{arith}
 use Prim.Native.Nat.{ℕ, ◌≤◌, ◌<◌}
-use lib.ListN.{length, take}
-use Rattle.order.specs.Keys.{group_keys, radio_keys}
+use lib.ListN.{length, get_or}
+use Rattle.order.specs.Keys.{keys_held}
 use Rattle.defining.specs.Sent.{assign_orders}
-use Rattle.defining.proofs.Assigning.{all-keys, assign-next}
+use Rattle.defining.proofs.Assigning.{assign-room, assign-next}
 use borrow.Author.Rules.{rules}
 use Rattle.defining.proofs.outgoing.assign_orders.Goals as goal
+use Rattle.defining.proofs.outgoing.assign_orders.Goals.{After-push_orders}
 
-pub loop-i-preserved : goal.loop-i-preserved
-loop-i-preserved c =
-    let l = c.loop-i in
-    let a = c.args in
-    let gs = group_keys a.named in
-    let rs = take c.radio_count-width.result a.radios.key in
-    -- the radios are as many as the width, and what goes out to them fits
-    let same : rs ≡ radio_keys a.radios =
-    ap (λ (n : ℕ). take n a.radios.key) c.radio_count-width.ensures ∙ all-keys a.radios.count a.radios.key in
-    let width : c.radio_count-width.result ≡ length rs = c.radio_count-width.ensures ∙ sym (ap length same) in
-    let fits : length (assign_orders rs gs) ≤ length a.out.now = rw same c.requires in
-    let h : l.i < length gs = omega (arith, c.group_count-end.ensures) in (
-      search rules,
-      assign-next rs gs a.out.now l.out l.i l.at l.invariant.1 fits h _ _ c.group_at.ensures width _ c.push_orders.ensures,
-    )
+-- the group at hand is one of those named, and what goes out fits
+inside : (c : After-push_orders) → c.loop-group.group-index < length (keys_held c.args.named.now)
+inside c = omega (arith, ap length c.as_slice-group-items.ensures, c.loop-group-test.true)
+
+fits : (c : After-push_orders) → length (assign_orders c.as_slice-listed.result.now (keys_held c.args.named.now)) ≤ length c.args.out.now
+fits c = rw c.as_slice-listed.ensures c.requires
+
+pub overflow_add-at : goal.overflow_add-at
+overflow_add-at c =
+    let d = (goal.at.overflow_add-at c).After-push_orders in
+    let l = c.loop-group in
+    let room = assign-room c.as_slice-listed.result.now (keys_held c.args.named.now) c.args.out.now l.out l.group-index l.at l.invariant (fits d) (inside d) in
+    search rules
+
+pub loop-group-preserved : goal.loop-group-preserved
+loop-group-preserved c =
+    let d = (goal.at.loop-group-preserved c).After-push_orders in
+    let l = c.loop-group in
+    assign-next c.as_slice-listed.result.now (keys_held c.args.named.now) c.args.out.now l.out l.group-index l.at l.invariant (fits d) (inside d)
+    _ _ (ap (λ (z : List ℕ). get_or z l.group-index 0) c.as_slice-group-items.ensures) refl _ c.push_orders.ensures
