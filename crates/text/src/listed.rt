@@ -14,6 +14,7 @@ use rows::{
 pub trait Item {
     ghost text: { Self → List ℕ };
 
+    // Stays: `out` and `at` go apart: a struct of both would hold the caller's `&mut`, and each method would have to say that it still does.
     fn put(&self, out: &mut [u8], at: usize) -> usize
         requires { at + 30 ≤ length out.old }
         ensures { Put (text self.now) out.old out.new at result };

@@ -1,5 +1,4 @@
 // Pieces of text. Each function puts one into `out`, from a place on, and answers the place behind it.
-// Stays: `out` and the place go side by side, since a struct of both would hold the caller's `&mut`, and each method would have to say that it still does.
 ghost use Rattle.std.specs.Prelude.{◌≡◌, [], ◌∷◌, ◌+◌, ◌≤◌, length};
 ghost use Rattle.text.specs.Digits.{digit, digits_text};
 ghost use Rattle.text.specs.Text.{number_text};
