@@ -3,6 +3,7 @@ use mathlib.Core.Path.{◌≡◌, sym, ◌∙◌}
 use contract.Lifetimes.{Lfts}
 use borrow.Fn.Kinds.{Dens, res_t, ended_of}
 use denote.Triple.Clauses.{AtExit}
+use Rattle.refusal.proofs.Unique.{Unique}
 use Rattle.house.proofs.heading.Kinds as heading-kinds
 use Rattle.house.proofs.heading.Reads as heading
 use Rattle.house.proofs.split.Kinds as split-kinds
@@ -12,9 +13,8 @@ use Rattle.house.proofs.refuse_at.Reads as refuse-at
 use Rattle.house.proofs.echo_line.Kinds as echo-line-kinds
 use Rattle.house.proofs.echo_line.Reads as echo-line
 
-module _ (κs : Lfts 1) (a : Dens κs heading-kinds.ps) (r r' : (res_t heading-kinds.r κs).Denot) (s s' : AtExit (ended_of 1 heading-kinds.ps heading-kinds.r) κs) where
-  pub heading-unique : heading.Post κs a r s → heading.Post κs a r' s' → r ≡ r'
-  heading-unique p q = p ∙ sym q
+pub heading-unique : Unique heading-kinds.ps heading-kinds.r heading.Post
+heading-unique κs a r r' s s' p q = p ∙ sym q
 
 module _ (κs : Lfts 1) (a : Dens κs split-kinds.ps) (r r' : (res_t split-kinds.r κs).Denot) (s s' : AtExit (ended_of 1 split-kinds.ps split-kinds.r) κs) where
   pub split-unique : split.Post κs a r s → split.Post κs a r' s' → r.now ≡ r'.now
