@@ -1,8 +1,8 @@
--- Tests: by cases on a Bool, what `&&`, `||` and `not` say, and tests over what is made of each element.
+-- Tests: by cases on a Bool, what `&&`, `||` and `not` say, and a test over what is made of each element.
 use mathlib.Core.Path.{◌≡◌, refl, sym, ap}
 use mathlib.Core.Bool.{Bool, true, false, not, ◌&&◌, ◌||◌}
 use mathlib.Core.List.{List, [], ◌∷◌, map}
-use Rattle.rules.specs.Lists.{any, all}
+use Rattle.rules.specs.Lists.{any}
 
 pub split {ℓ} : {P : Type ℓ} (t : Bool) → (t ≡ true → P) → (t ≡ false → P) → P
 split true yes' no' = yes' refl
@@ -64,12 +64,7 @@ or_r false b e = e
 pub not_in : (a : Bool) → a ≡ false → not a ≡ true
 not_in a p = cc
 
--- tests over what is made of each element
-module _ {A B : Type 0} (p : B → Bool) (f : A → B) where
-  pub any-map : (l : List A) → any (λ x. p (f x)) l ≡ any p (map f l)
-  any-map [] = refl
-  any-map (x ∷ l) = ap (λ b. p (f x) || b) (any-map l)
-
-  pub all-map : (l : List A) → all (λ x. p (f x)) l ≡ all p (map f l)
-  all-map [] = refl
-  all-map (x ∷ l) = ap (λ b. p (f x) && b) (all-map l)
+-- a test over what is made of each element
+pub any-map : {A B : Type 0} (p : B → Bool) (f : A → B) (l : List A) → any (λ x. p (f x)) l ≡ any p (map f l)
+any-map p f [] = refl
+any-map p f (x ∷ l) = ap (λ b. p (f x) || b) (any-map p f l)
