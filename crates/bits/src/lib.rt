@@ -70,7 +70,17 @@ impl<'a> Reader<'a> {
         ensures { result ≡ field_at self.entry.frame.now self.entry.bits self.entry.at width }
     {
         let Reader { frame, bits, at } = self;
-        if frame.len() < bits.div_ceil(8) || bits < at || bits - at < width || 32 < width {
+        // Stays: test by test; joined by `||` they cost echo a tenth more instructions a line.
+        if frame.len() < bits.div_ceil(8) {
+            return None;
+        }
+        if bits < at {
+            return None;
+        }
+        if bits - at < width {
+            return None;
+        }
+        if 32 < width {
             return None;
         }
         Some(field_value(frame, at, width))

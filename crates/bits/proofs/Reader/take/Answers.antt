@@ -8,18 +8,18 @@ use Rattle.bits.specs.Bits.{bits_of, value}
 use Rattle.bits.proofs.Laws.{field-short, field_cut, field-wide, field-value}
 use Rattle.bits.proofs.Windows.{part-of-take}
 use Rattle.bits.proofs.Reader.take.Goals as goal
-use Rattle.bits.proofs.Reader.take.Goals.{then-frame-div_ceil-via-then-frame-div_ceil, then-frame-div_ceil-via-else-frame-div_ceil+then-bits-at}
-use Rattle.bits.proofs.Reader.take.Goals.{then-frame-div_ceil-via-else-frame-div_ceil+else-bits-at+then-bits-at-2}
-use Rattle.bits.proofs.Reader.take.Goals.{then-frame-div_ceil-via-else-frame-div_ceil+else-bits-at+else-bits-at-2+then-width-gt32}
 
 pub returns-then-frame-div_ceil : goal.returns-then-frame-div_ceil
-returns-then-frame-div_ceil c =
-    elim c.then-frame-div_ceil.branch [
-      | then-frame-div_ceil-via-then-frame-div_ceil w ↦ sym (field-short _ _ _ _ (omega arith))
-      | then-frame-div_ceil-via-else-frame-div_ceil+then-bits-at w ↦ sym (field_cut _ _ _ _ (omega arith))
-      | then-frame-div_ceil-via-else-frame-div_ceil+else-bits-at+then-bits-at-2 w ↦ sym (field_cut _ _ _ _ (omega arith))
-      | then-frame-div_ceil-via-else-frame-div_ceil+else-bits-at+else-bits-at-2+then-width-gt32 w ↦ sym (field-wide _ _ _ _ (omega arith))
-    ]
+returns-then-frame-div_ceil c = sym (field-short _ _ _ _ (omega arith))
+
+pub returns-then-bits-at : goal.returns-then-bits-at
+returns-then-bits-at c = sym (field_cut _ _ _ _ (omega arith))
+
+pub returns-then-bits-at-2 : goal.returns-then-bits-at-2
+returns-then-bits-at-2 c = sym (field_cut _ _ _ _ (omega arith))
+
+pub returns-then-width-gt32 : goal.returns-then-width-gt32
+returns-then-width-gt32 c = sym (field-wide _ _ _ _ (omega arith))
 
 pub returns : goal.returns
 returns c =
