@@ -18,17 +18,16 @@ use Rattle.store.specs.Storage.{Rows, Contents, group_of, group_count, ledger_of
 use Rattle.store.specs.Form.{Sound}
 use Rattle.store.specs.Places.{looked_up}
 use Rattle.store.specs.Named.{owned_as}
-use Rattle.store.specs.declared.Owned.{Owned}
 use Rattle.replies.specs.Orders.{JudgesAsker}
 use Rattle.replies.proofs.Orders.{reply-none}
-use Rattle.replies.proofs.Owned.{owned_reply, owned-replies}
+use Rattle.replies.proofs.Owned.{owned-replies}
 
 -- in its ranges, on contents in their form, a question is judged by whose the group is
 pub asked-owned : (c : Contents) (asker : Itsi) (group : Gtsi) → Sound c → wide_number (radio_number asker) ≡ false → wide_number (group_number group) ≡ false
     → (rows : Rows) (g a : ℕ) → rows ≡ take (group_count c) c.groups → g ≡ key (group_number group) → a ≡ key (radio_number asker)
-    → (x : Owned) → x ≡ owned_as (looked_up ltb eqb (map group_of rows) g) a → (o : Owned) → x ≡ o → JudgesAsker c asker group (owned_reply o)
-asked-owned c asker group w m n rows g a l p q x e o d = record {
-  judges = rw (w.form, m, n, ← p, ← q) (owned-replies c w g a o (sym d ∙ rw l at e));
+    → (reply : Result ⊤ Refusal) → reply ≡ owned_as (looked_up ltb eqb (map group_of rows) g) a → JudgesAsker c asker group reply
+asked-owned c asker group w m n rows g a l p q reply e = record {
+  judges = rw (w.form, m, n, ← p, ← q) (rw l at e ∙ owned-replies c w g a);
   sound = λ k. w;
 }
 

@@ -20,7 +20,6 @@ use order::{GroupAsked, GroupKey, Gtsi, Itsi, RadioKey};
 use refusal::Refusal;
 use replies::Shown;
 use rows::{ENTRY_WORDS, GROUP_WORDS, PAIR_RADIO, PAIR_STATE, PAIR_WORDS};
-use store::Owned;
 use store::form::Lent;
 use store::named::owned_by;
 use store::places::{place, stretch_of};
@@ -35,15 +34,11 @@ fn ask_fault(lent: Lent<'_>, asker: Itsi, group: Gtsi) -> Result<(), Refusal>
     if wide_radio(asker) || wide_group(group) {
         return Err(Refusal::BadOrder);
     }
-    match owned_by(
+    owned_by(
         lent.group_rows(),
         GroupKey::from(group),
         RadioKey::from(asker),
-    ) {
-        Owned::Absent => Err(Refusal::NoSuchGroup),
-        Owned::Own => Ok(()),
-        Owned::Other => Err(Refusal::NotOwner),
-    }
+    )
 }
 
 // A pair's radio and its state, as a row of the room.

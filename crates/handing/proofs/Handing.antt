@@ -9,7 +9,7 @@ use borrow.Author.Tests.{ltb-false}
 use lib.Dec.{eqb, ltb}
 use lib.ListN.{length, get_or, take, drop, set, replicate}
 use lib.Seq.{set-get_or}
-use Rattle.std.specs.Prelude.{Result, Ok, Err}
+use Rattle.std.specs.Prelude.{Result, Ok, Err, ⊤}
 use Rattle.refusal.specs.declared.Refusal.{Refusal}
 use Rattle.rules.specs.Lists.{rising, once}
 use Rattle.rules.specs.Entries.{find}
@@ -49,14 +49,13 @@ use Rattle.store.specs.Places.{looked_up, place_of}
 use Rattle.store.specs.Named.{owned_as}
 use Rattle.store.specs.Storage.{Rows, Contents, contents, group_of, group_row, pair_row, group_count, pair_count, placing, ledger_of, laid}
 use Rattle.store.specs.Form.{Sound}
-use Rattle.store.specs.declared.Owned.{Owned}
 use Rattle.store.proofs.FormLaws.{groups-rise, pairs-rise}
 use Rattle.store.proofs.PlaceLaws.{InRows, in_rows}
 use Rattle.store.proofs.Parting.{Parted, parted}
 use Rattle.store.proofs.OneRow.{row-replaced}
 use Rattle.replies.specs.Orders.{reply_of, Judges}
 use Rattle.replies.proofs.Orders.{not_done, form-refuses, stand-tells, head-counts, count-pairs, pairs-stay}
-use Rattle.replies.proofs.Owned.{owned_reply, owned_tests, owned-replies}
+use Rattle.replies.proofs.Owned.{owned_tests, owned-replies}
 use Rattle.making.specs.Row.{made_row}
 use Rattle.making.proofs.Making.{blank-row, made-is}
 use Rattle.making.proofs.Standing.{fine-found}
@@ -87,10 +86,9 @@ module _ (c : Contents) (w : Sound c) (asker : Itsi) (group : Identity) (owners 
 
   -- past them the order is judged by whose the group is
   pub owned-judged : Ok tt ≡ reply_of (first forms) → (rows : Rows) (g a : ℕ) → rows ≡ take (group_count c) c.groups → g ≡ group_named asker group
-      → a ≡ key (radio_number asker) → (x : Owned) → x ≡ owned_as (looked_up ltb eqb (map group_of rows) g) a → (o : Owned) → x ≡ o
-      → Judges c step (owned_reply o)
-  owned-judged f rows g a l p q x e o d = record {
-    judges = rw (p, q) at (owned-replies c w g a o (sym d ∙ rw l at e)) ∙ stand-tells c w step forms stands handover-tests f;
+      → a ≡ key (radio_number asker) → (reply : Result ⊤ Refusal) → reply ≡ owned_as (looked_up ltb eqb (map group_of rows) g) a → Judges c step reply
+  owned-judged f rows g a l p q reply e = record {
+    judges = rw (p, q) at (rw l at e ∙ owned-replies c w g a) ∙ stand-tells c w step forms stands handover-tests f;
     sound = λ k. w;
   }
 

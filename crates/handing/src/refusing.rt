@@ -11,7 +11,6 @@ use order::lists::{bad_identity, bad_list, short, untaken, wide_radio};
 use order::ranges::{bad_range, too_many_owners};
 use order::{Identity, Itsi, Numbers, RadioKey};
 use refusal::Refusal;
-use store::Owned;
 use store::form::Lent;
 use store::named::owned_by;
 
@@ -49,13 +48,6 @@ pub fn handover_fault(
         return Err(Refusal::NotWritten);
     }
     form_fault(asker, group, owners)?;
-    match owned_by(
-        lent.group_rows(),
-        group_in(asker, group),
-        RadioKey::from(asker),
-    ) {
-        Owned::Absent => Err(Refusal::NoSuchGroup),
-        Owned::Own => Ok(()),
-        Owned::Other => Err(Refusal::NotOwner),
-    }
+    let key = group_in(asker, group);
+    owned_by(lent.group_rows(), key, RadioKey::from(asker))
 }

@@ -17,33 +17,24 @@ use Rattle.store.specs.Storage.{Contents, ledger_of}
 use Rattle.store.specs.Form.{Sound}
 use Rattle.store.specs.Places.{looked_up}
 use Rattle.store.specs.Named.{owned_as}
-use Rattle.store.specs.declared.Owned.{Owned}
-use Rattle.store.specs.declared.Owned.TheVariants.{Absent, Own, Other}
 use Rattle.store.proofs.FormLaws.{groups-rise}
 use Rattle.store.proofs.PlaceLaws.{looked-found}
 use Rattle.replies.specs.Orders.{reply_of}
-
-abbrev pub owned_reply : Owned → Result ⊤ Refusal
-owned_reply Absent = Err NoSuchGroup
-owned_reply Own = Ok tt
-owned_reply Other = Err NotOwner
 
 -- the tests that tell it
 abbrev pub owned_tests : Contents → ℕ → ℕ → List (Refusal × Bool)
 owned_tests c g a = (NoSuchGroup, not ((view (ledger_of c)).stands g)) ∷ (NotOwner, not ((view (ledger_of c)).owner g a)) ∷ []
 
--- whose a group is, looked up, is what these tests tell
-pub owned-replies : (c : Contents) → Sound c → (g a : ℕ) (o : Owned) → o ≡ owned_as (looked_up ltb eqb (ledger_of c).groups g) a
-    → owned_reply o ≡ reply_of (first (owned_tests c g a))
-owned-replies c w g a o e =
-    ap owned_reply (e ∙ ap (λ (x : Option Group). owned_as x a) (looked-found numbers-linear (ledger_of c).groups g (groups-rise c w)))
+-- whether a group is the asker's, looked up, is what these tests tell
+pub owned-replies : (c : Contents) → Sound c → (g a : ℕ) → owned_as (looked_up ltb eqb (ledger_of c).groups g) a ≡ reply_of (first (owned_tests c g a))
+owned-replies c w g a =
+    ap (λ (x : Option Group). owned_as x a) (looked-found numbers-linear (ledger_of c).groups g (groups-rise c w))
     ∙ found (find eqb (ledger_of c).groups g)
   where
-    owns : (b : Bool) → owned_reply (cond b Own Other) ≡ reply_of (cond (not b) (some NotOwner) none)
+    owns : (b : Bool) → ◌≡◌ {A = Result ⊤ Refusal} (cond b (Ok tt) (Err NotOwner)) (reply_of (cond (not b) (some NotOwner) none))
     owns true = refl
     owns false = refl
 
-    found : (x : Option Group)
-        → owned_reply (owned_as x a) ≡ reply_of (cond (not (present x)) (some NoSuchGroup) (cond (not (mem a (owners_of x))) (some NotOwner) none))
+    found : (x : Option Group) → owned_as x a ≡ reply_of (cond (not (present x)) (some NoSuchGroup) (cond (not (mem a (owners_of x))) (some NotOwner) none))
     found none = refl
     found (some x) = owns (mem a x.owners)

@@ -11,6 +11,5 @@ pub mod Groups
 pub mod UpFrom
 pub mod PairWalk
 pub mod FormLaws
-pub mod NamedLaws
 pub mod Says
 pub mod Unique

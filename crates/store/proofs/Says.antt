@@ -13,7 +13,6 @@ use Rattle.rules.specs.Ledger.{Group}
 use Rattle.store.specs.Halving.{place_in}
 use Rattle.store.specs.Places.{place_of, looked_up, found_of}
 use Rattle.store.specs.Named.{owned_as}
-use Rattle.store.specs.declared.Owned.TheVariants.{Own, Other}
 use Rattle.store.specs.Says.{place_says, found_says, owned_says}
 
 -- whether it is looked up there, and the place
@@ -43,6 +42,6 @@ pub owned-says : (x : Option Group) (asker : ℕ) → owned_says (owned_as x ask
 owned-says none asker = refl
 owned-says (some x) asker = go (mem asker x.owners)
   where
-    go : (b : Bool) → owned_says (cond b Own Other) ≡ cond b (accepted []) (refused_with NotOwner)
+    go : (b : Bool) → owned_says (cond b (Ok tt) (Err NotOwner)) ≡ cond b (accepted []) (refused_with NotOwner)
     go true = refl
     go false = refl

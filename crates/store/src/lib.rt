@@ -12,14 +12,6 @@ pub struct Stretch {
     pub to: usize,
 }
 
-// Whose a group is, to an asker.
-#[derive(Clone, Copy)]
-pub enum Owned {
-    Absent,
-    Own,
-    Other,
-}
-
 // What may be wrong with a named group: it does not stand; the asker does not own it; it stands and the asker does not own it.
 #[derive(Clone, Copy)]
 pub enum Standing {

@@ -2,13 +2,14 @@
 ghost use Rattle.std.specs.Prelude.{eqb, ltb, map, ◌≡◌};
 ghost use Rattle.rules.specs.Lists.{mem, any};
 ghost use Rattle.order.specs.Keys.{keys_held};
-ghost use Rattle.store.specs.Named.{group_fault, owned_as, fails_as};
+ghost use Rattle.store.specs.Named.{group_fault, owned_as};
 ghost use Rattle.store.specs.Places.{looked_up};
 ghost use Rattle.store.specs.Storage.{group_of};
 
+use crate::Standing;
 use crate::places::place;
-use crate::{Owned, Standing};
 use order::{GroupKey, Groups, RadioKey};
+use refusal::Refusal;
 use rows::{FIRST_OWNER, GROUP_WORDS, MAX_OWNERS, OWNER_COUNT};
 
 // Whether a radio is an owner of a group.
@@ -19,31 +20,45 @@ pub fn owner_in(row: [u64; GROUP_WORDS], asker: RadioKey) -> bool
     row[FIRST_OWNER..end].contains(&asker.0)
 }
 
-// Whose a group is.
-pub fn owned_by(groups: &[[u64; GROUP_WORDS]], group: GroupKey, asker: RadioKey) -> Owned
+// Whether a group is the asker's: refused where there is none, or where it is another's.
+pub fn owned_by(
+    groups: &[[u64; GROUP_WORDS]],
+    group: GroupKey,
+    asker: RadioKey,
+) -> Result<(), Refusal>
     ensures { result ≡ owned_as (looked_up ltb eqb (map group_of groups.now) group.0) asker.0 }
 {
     let Ok(i) = place(groups, group) else {
-        return Owned::Absent;
+        return Err(Refusal::NoSuchGroup);
     };
     if owner_in(groups[i], asker) {
-        return Owned::Own;
+        return Ok(());
     }
-    Owned::Other
-}
-
-fn fails(standing: Standing, owned: Owned) -> bool
-    ensures { result ≡ fails_as standing owned }
-{
-    match (standing, owned) {
-        (Standing::Missing, Owned::Absent) => true,
-        (Standing::Foreign, Owned::Absent | Owned::Other) => true,
-        (Standing::Taken, Owned::Other) => true,
-        _ => false,
-    }
+    Err(Refusal::NotOwner)
 }
 
 // Whether a named group has this fault.
+fn has_fault(
+    groups: &[[u64; GROUP_WORDS]],
+    group: GroupKey,
+    asker: RadioKey,
+    standing: Standing,
+) -> bool
+    ensures { result ≡ group_fault standing (looked_up ltb eqb (map group_of groups.now) group.0) asker.0 }
+{
+    let Ok(i) = place(groups, group) else {
+        return match standing {
+            Standing::Missing | Standing::Foreign => true,
+            Standing::Taken => false,
+        };
+    };
+    match standing {
+        Standing::Missing => false,
+        Standing::Foreign | Standing::Taken => !owner_in(groups[i], asker),
+    }
+}
+
+// Whether one of these groups has.
 pub fn any_group(
     groups: &[[u64; GROUP_WORDS]],
     named: &Groups,
@@ -55,5 +70,5 @@ pub fn any_group(
     named
         .as_slice()
         .iter()
-        .any(|&g| fails(standing, owned_by(groups, GroupKey(g), asker)))
+        .any(|&g| has_fault(groups, GroupKey(g), asker, standing))
 }
