@@ -327,7 +327,8 @@ module _ (f : Field) (s : List ℕ) (at p : ℕ) (vs : List ℕ) (out : Lent) (i
           let b : f.first + f.codes ≤ v = omega (arith, narrow.low, leb-true f.first v e) in
           rw (e, le-ltb v (f.first + f.codes) b, narrow.plain)
 
-  pub field-laid : (out' : Lent) → out'.bytes ≡ put_at out.bytes at f.width code → Lays Lay (row_for f [] ∷ []) s at p vs (set vs p v) out out' (Some (at + f.width))
+  pub field-laid : (out' : Lent) → out'.bytes ≡ put_at out.bytes at f.width code
+      → Lays Lay (row_for f [] ∷ []) s at p vs (set vs p v) out out' (Some (at + f.width))
   unfolding present emit
   field-laid out' e = lay-next Lay (row_for f []) s at p vs out inside refl v (sym h) out' does tt
     where

@@ -153,7 +153,8 @@ module _ (n : Refusal) (c : Condition) (s : List ℕ) (at p : ℕ) (out : Lent) 
         subst (λ (l : List Laid). Found Judge l 1 at p vs vs out out at (Some NoGroup)) (sym (bar-laid true e)) (bar-lies Judge true, refl, rw h, z)
 
   -- by the reason and the walk
-  module _ (pass : Pass) (inside : p < places) (known : List ℕ → Type 0) (reason : Bool) (refusal : Option Passed) (small : Within (reached refusal at) (at + 32))
+  module _ (pass : Pass) (inside : p < places) (known : List ℕ → Type 0) (reason : Bool) (refusal : Option Passed)
+      (small : Within (reached refusal at) (at + 32))
       (tells : (vs : List ℕ) → Clear vs p → known vs → Finds pass (present (take p vs) (c ∷ []) ≡ reason))
       (stops : (vs : List ℕ) → p < length vs → Clear vs p → present (take p vs) (c ∷ []) ≡ true
       → Found Judge (lay bar (take p vs) (drop p s)) 1 at p vs vs out out at refusal) where
@@ -169,7 +170,8 @@ module _ (n : Refusal) (c : Condition) (s : List ℕ) (at p : ℕ) (out : Lent) 
         go Lay b t = record { lent = stays_none; within = omega arith; finds = λ vs size z k. (vs, refl, bar-laying vs (omega arith) z _ refl) }
 
 -- ---- under the element's conditions
-lay-shape : (x : Shape) (hang : List Condition) (p : ℕ) (done s : List ℕ) → present done hang ≡ true → lay (rows_of x hang p) done s ≡ lay (rows_of x [] p) done s
+lay-shape : (x : Shape) (hang : List Condition) (p : ℕ) (done s : List ℕ) → present done hang ≡ true
+    → lay (rows_of x hang p) done s ≡ lay (rows_of x [] p) done s
 unfolding rows_of
 lay-shape (Number w) hang p done s e = lay-under w 0 (2 ^ w) Reserved 0 [] hang [] done s e
 lay-shape (Choice w n) hang p done s e = lay-under w 1 n Reserved 0 [] hang [] done s e

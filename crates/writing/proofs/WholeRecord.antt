@@ -170,7 +170,8 @@ module _ {pass : Pass} {kind : Kind} {es : List Element} {s : List ℕ} {out₀ 
     n-rows : length own-rows ≡ span e.1
     n-rows = length-shape e.1 (conditions_of e.0) p
 
-    module _ {out' : Lent} {at' : ℕ} {r : Option Passed} {w : ℕ} (f : Puts pass (LooksAlong pass s last p e) own-rows s at p out out' at' r) (takes : w ≡ span e.1) where
+    module _ {out' : Lent} {at' : ℕ} {r : Option Passed} {w : ℕ} (f : Puts pass (LooksAlong pass s last p e) own-rows s at p out out' at' r)
+        (takes : w ≡ span e.1) where
       after : (vs' : List ℕ) × (length vs' ≡ length now.vs) × Found pass here (length own-rows) at p now.vs vs' out out' at' r
       after = f.finds now.vs now.size now.clear looks-along
 

@@ -15,6 +15,11 @@ use Rattle.layout.specs.Write.{Laid, lay, good, good_but_group}
 use Rattle.table.specs.Sound.{Clear}
 use Rattle.writing.specs.Lay.{Lent, Stays, Finds, Lies, Ends, Within, reached}
 
+-- the place behind the one of the last element that holds something
+abbrev pub behind : Option ℕ → ℕ
+behind None = 0
+behind (Some p) = p + 1
+
 -- what a shape looks at, besides its own places: a group's place as the caller's record has it; whether anything came since an O-bit, as the judge has noted
 abbrev pub Looks : Pass → List ℕ → ℕ → ℕ → Shape → List ℕ → Type 0
 Looks pass s last p (Number w) vs = Unit {0}

@@ -80,7 +80,8 @@ pub record Ready (at p n : ℕ) : Type 0 where
 pub record Passes (pass : Pass) (f : Field) (v at : ℕ) (out out' : Lent) (r : Option ℕ) : Type 0 where
   pub lent : Stays out out'
   pub within : Within r (at + 32)
-  pub lays : (s vs : List ℕ) (p : ℕ) → p < length vs → v ≡ held (row_for f []) (slice_index s p) → Lays pass (row_for f [] ∷ []) s at p vs (slice_set vs p v) out out' r
+  pub lays : (s vs : List ℕ) (p : ℕ) → p < length vs → v ≡ held (row_for f []) (slice_index s p)
+      → Lays pass (row_for f [] ∷ []) s at p vs (slice_set vs p v) out out' r
 
 -- rows, after whatever cleaned record, if it is as the part has it: any; one that holds at a place what the caller's record holds there
 abbrev pub Any : List ℕ → Type 0

@@ -5,7 +5,7 @@ ghost use Rattle.layout.specs.Frame.{laid};
 ghost use Rattle.layout.specs.Shape.{rows_of, span, conditions_of};
 ghost use Rattle.table.specs.Sound.{sound};
 ghost use Rattle.writing.specs.Lay.{Ready};
-ghost use Rattle.writing.specs.Found.{Looks, LooksAlong, found_of};
+ghost use Rattle.writing.specs.Found.{Looks, LooksAlong, behind, found_of};
 ghost use Rattle.writing.specs.Goes.{GoesBy, SameWalk};
 ghost use Rattle.writing.specs.Whole.{Walks};
 
@@ -30,10 +30,11 @@ fn found(put: Option<()>, value: u32) -> Option<Passed>
 }
 
 impl<'p, 'v, P: Pass> Walk<'p, 'v, P> {
-    // The rows of a shape that is there. `last` is the place behind the first of the last element before it that holds anything.
-    fn shape(&mut self, place: usize, shape: Shape, last: usize) -> Option<Passed>
+    // The rows of a shape that is there. `last` is the place of the last element before it that holds anything.
+    fn shape(&mut self, place: usize, shape: Shape, last: Option<usize>) -> Option<Passed>
         requires { Ready self.old.at place (span shape) × T (sound shape place) }
-        ensures puts { GoesBy P.pass P.lent (Looks P.pass self.old.values.now last place shape) (rows_of shape [] place) place self.old self.new result }
+        ensures puts { GoesBy P.pass P.lent (Looks P.pass self.old.values.now (behind last) place shape) (rows_of shape [] place) place
+            self.old self.new result }
         ensures stays { SameWalk self.old self.new }
     {
         let values = self.values;
@@ -44,17 +45,22 @@ impl<'p, 'v, P: Pass> Walk<'p, 'v, P> {
             Shape::Identity => found(self.identity(place), value),
             Shape::List(items) => found(self.list(place, items), value),
             Shape::Ending => found(self.field(0, M_BIT), 0),
-            Shape::Missing(q) => self
-                .pass
-                .barred(holds(values, q, IF_NO), Some(Passed::NoGroup)),
-            Shape::Nothing(o) => self.pass.barred(last <= o as usize + 1, None),
+            Shape::Missing(q) => {
+                let missing = holds(values, q, IF_NO);
+                self.pass.barred(missing, Some(Passed::NoGroup))
+            }
+            Shape::Nothing(o) => {
+                let nothing = last.is_none_or(|held| held <= o as usize);
+                self.pass.barred(nothing, None)
+            }
         }
     }
 
     // An element: its rows if it is there, else nothing.
-    fn element(&mut self, place: usize, element: Element, last: usize) -> Option<Passed>
+    fn element(&mut self, place: usize, element: Element, last: Option<usize>) -> Option<Passed>
         requires { Ready self.old.at place (span element.1) × T (sound element.1 place) }
-        ensures puts { GoesBy P.pass P.lent (LooksAlong P.pass self.old.values.now last place element) (rows_of element.1 (conditions_of element.0) place) place self.old self.new result }
+        ensures puts { GoesBy P.pass P.lent (LooksAlong P.pass self.old.values.now (behind last) place element)
+            (rows_of element.1 (conditions_of element.0) place) place self.old self.new result }
         ensures stays { SameWalk self.old self.new }
     {
         let values = self.values;
@@ -81,12 +87,12 @@ pub fn walk_elements<P: Pass>(
     };
     let mut grouped = true;
     let mut place = 0;
-    let mut last = 0;
+    let mut last = None;
     for &element in table_of(kind) {
         match walk.element(place, element, last).ok_or(Refusal::Reserved)? {
             Passed::Empty => {}
             Passed::Held => {
-                last = place + 1;
+                last = Some(place);
             }
             Passed::NoGroup => {
                 grouped = false;

@@ -67,7 +67,8 @@ impl<'p, 'v, P: Pass> Walk<'p, 'v, P> {
     // Item `i`, at `place`, of the list whose count is at `count`, if it is there.
     fn listed(&mut self, count: usize, place: usize, items: Items, i: u8) -> Option<()>
         requires { Ready self.old.at place (stride items) × (count < place) }
-        ensures writes { Goes P.pass P.lent (Known self.old.values.now count) (item items (at_least count (least items i) ∷ []) place) place self.old self.new result }
+        ensures writes { Goes P.pass P.lent (Known self.old.values.now count) (item items (at_least count (least items i) ∷ []) place) place
+            self.old self.new result }
         ensures stays { SameWalk self.old self.new }
     {
         if least_for(items, i) <= self.values[count] {
@@ -80,7 +81,8 @@ impl<'p, 'v, P: Pass> Walk<'p, 'v, P> {
     // The items of the list whose count is at `count`.
     fn items(&mut self, count: usize, items: Items) -> Option<()>
         requires { Ready self.old.at (count + 1) (stride items * times items) }
-        ensures writes { Goes P.pass P.lent (Known self.old.values.now count) (repeated items count (count + 1) 0 (times items)) (count + 1) self.old self.new result }
+        ensures writes { Goes P.pass P.lent (Known self.old.values.now count) (repeated items count (count + 1) 0 (times items)) (count + 1)
+            self.old self.new result }
         ensures stays { SameWalk self.old self.new }
     {
         let mut place = count + 1;

@@ -19,7 +19,9 @@ returns-in_err-listed-clause-writes g c =
 pub loop-i-preserved : goal.loop-i-preserved
 loop-i-preserved g c =
     let one = rw c.loop-i.invariant.1 at c.listed.ensures.writes in
-    (listed_more c.loop-i.invariant.0 one (goes_on c.in_ok-listed.was) c.stride_of-place.ensures, c.listed.ensures.stays.0 ∙ c.loop-i.invariant.1, c.listed.ensures.stays.1 ∙ c.loop-i.invariant.2)
+    let stays = c.listed.ensures.stays in
+    let before = c.loop-i.invariant in
+    (listed_more before.0 one (goes_on c.in_ok-listed.was) c.stride_of-place.ensures, stays.0 ∙ before.1, stays.1 ∙ before.2)
 
 pub returns-clause-writes : goal.returns-clause-writes
 returns-clause-writes g c =
