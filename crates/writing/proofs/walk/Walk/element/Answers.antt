@@ -13,5 +13,6 @@ returns-then-there-clause-puts g c =
 pub returns-else-there-clause-puts : goal.returns-else-there-clause-puts
 returns-else-there-clause-puts g c =
     let a = c.args in
-    element-off g.P.Pass.pass a.element a.self.now.values.now (behind a.last) a.self.now.at a.place (g.P.Pass.lent a.self.now.pass.now) (sym c.there.ensures ∙ c.if-there.false)
+    element-off g.P.Pass.pass a.element a.self.now.values.now (behind a.last) a.self.now.at a.place (g.P.Pass.lent a.self.now.pass.now)
+    (sym c.there.ensures ∙ c.if-there.false)
     c.requires.0.room
