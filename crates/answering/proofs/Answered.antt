@@ -1,4 +1,4 @@
--- Laws of an answer, a tick and an empty ledger: what they make of lent contents.
+-- Laws of an answer and a tick: what they make of lent contents.
 use mathlib.Core.Path.{◌≡◌, refl, sym, ap, ◌∙◌}
 use mathlib.Core.Bool.{false, cond}
 use mathlib.Core.List.{List, [], map}
@@ -14,7 +14,7 @@ use Rattle.rules.specs.Number.{key}
 use Rattle.rules.specs.declared.AnswerKind.{AnswerKind}
 use Rattle.rules.specs.Order.{tick}
 use Rattle.rules.specs.Effect.{effect, only}
-use Rattle.rules.specs.Ledger.{Pair, same_pair, empty, view}
+use Rattle.rules.specs.Ledger.{Pair, same_pair, view}
 use Rattle.rules.specs.ByNumber.{below_pair}
 use Rattle.rules.specs.Refusals.{tests}
 use Rattle.rules.specs.Steps.{tally, apply, refused}
@@ -33,10 +33,10 @@ use Rattle.store.specs.Lists.{Fills}
 use Rattle.std.specs.Prelude.{Result, Ok, Err}
 use Rattle.store.specs.Storage.{Contents, contents, groups_of, pair_of, pair_row, pairs_of, group_count, pair_count, placing, ledger_of, laid}
 use Rattle.store.specs.Form.{Sound}
-use Rattle.store.proofs.FormLaws.{Room, pairs-rise}
+use Rattle.store.proofs.FormLaws.{pairs-rise}
 use Rattle.store.proofs.HalvingLaws.{item-at}
 use Rattle.store.proofs.PlaceLaws.{InRows, in_rows}
-use Rattle.replies.proofs.Orders.{alter-length, head-counts, set_both, count-groups, count-pairs, groups-stay}
+use Rattle.replies.proofs.Orders.{alter-length, head-counts, count-groups, count-pairs, groups-stay}
 use Rattle.answering.specs.Answers.{as_mark, settled}
 use Rattle.answering.proofs.OneEntry.{alter-one-entry}
 
@@ -62,10 +62,6 @@ module _ (c : Contents) (w : Sound c) where
       let e : n ≡ length (alter (λ (k : Pair) m. some (ticked m)) (pairs_of n c.pairs)) = sym
       (alter-length (λ (k : Pair) m. ticked m) (pairs_of n c.pairs) ∙ count-pairs c w) in
       ap (λ (z : List ℕ). contents z c.groups rows) (sym (set-get_or c.head 1 0)) ∙ turned-laid (λ g r m. some (ticked m)) n rows e d
-
--- no group and no pair is left
-pub empty-laid : (c : Contents) → Room c → contents (set (set c.head 0 0) 1 0) c.groups c.pairs ≡ laid empty c
-empty-laid c r = ap (λ (z : List ℕ). contents z c.groups c.pairs) (set_both c.head 0 0 r.head)
 
 -- ---- an answer ----
 
