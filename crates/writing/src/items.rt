@@ -64,6 +64,7 @@ impl<'p, 'v, P: Pass> Walk<'p, 'v, P> {
         }
     }
 
+    // Stays: `place` and `items` apart, since the place goes on from item to item, and what the list is of does not.
     // Item `i`, at `place`, of the list whose count is at `count`, if it is there.
     fn listed(&mut self, count: usize, place: usize, items: Items, i: u8) -> Option<()>
         requires { Ready self.old.at place (stride items) × (count < place) }
