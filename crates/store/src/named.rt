@@ -38,6 +38,7 @@ pub fn owned_by(
 }
 
 // Whether a named group has this fault.
+// Stays: by Standing, since any-group-unique speaks of one answer, and a closure in its place would determine none.
 fn has_fault(
     groups: &[[u64; GROUP_WORDS]],
     group: GroupKey,
