@@ -1,23 +1,19 @@
 -- Laws of the orders of a define: one group's after the other's stand in the lent room.
-use mathlib.Core.Path.{◌≡◌, refl, sym, ap, ◌∙◌}
+use mathlib.Core.Path.{◌≡◌, sym, ap, ◌∙◌}
 use mathlib.Core.List.{List, map}
 use Prim.Native.Nat.{ℕ, ◌+◌, ◌≤◌, ◌<◌}
 use native.Mathlib.Omega.{arith}
-use lib.ListN.{length, get_or, take, length-map, length-append, length-take}
+use lib.ListN.{length, get_or, take, length-map, length-append}
 use lib.Seq.{paste}
 use Rattle.rules.specs.Lists.{join}
 use Rattle.rules.specs.Outgoing.{Outgoing, assign, orders}
-use Rattle.order.proofs.Walks.{take_min, onto-length}
+use Rattle.order.proofs.Walks.{onto-length}
 use Rattle.store.specs.Lists.{Fills}
 use Rattle.store.specs.Storage.{Rows}
 use Rattle.replies.specs.Sending.{order_row}
 use Rattle.sending.specs.Pushed.{pushed}
 use Rattle.sending.proofs.Pushing.{pushed-fits, length-rows, join-turn, join_front, send-turn}
 use Rattle.defining.specs.Sent.{assign_orders}
-
--- as many keys as are held are the keys held
-pub all-keys : (n : ℕ) (l : List ℕ) → take (length (take n l)) l ≡ take n l
-all-keys n l = ap (λ (k : ℕ). take k l) (length-take n l) ∙ take_min n (length l) l refl
 
 module _ (rs gs : List ℕ) (out₀ out : Rows) (i at : ℕ) (w : Fills order_row (assign_orders rs (take i gs)) out₀ out at)
     (fits : length (assign_orders rs gs) ≤ length out₀) where

@@ -17,6 +17,7 @@ use rows::GROUP_WORDS;
 use store::places::place;
 
 // The row of a group that is made anew where it stands, or made.
+// Stays: order and come apart: what is known of come (Fits) is of the group at hand, what is known of order of the order alone.
 fn row_for(
     groups: &[[u64; GROUP_WORDS]],
     place: Result<usize, usize>,

@@ -30,6 +30,7 @@ impl<'a> Ordered<'a> {
     }
 
     // Whether a pair does.
+    // Stays: beside has_group, a line each over store's one place; one over both would take the order as a trait's law.
     fn has_pair(self, group: GroupKey, radio: RadioKey) -> bool
         ensures { result ≡ present (find same_pair (map pair_of self.entry.pairs.now) (group.0, radio.0)) }
     {
@@ -48,6 +49,7 @@ impl<'a> Ordered<'a> {
     }
 
     // How many of the radios have no pair with a group yet.
+    // Stays: beside new_groups, a chain each: the keys are looked up in other rows, a radio's beside its group.
     fn new_radios(self, group: GroupKey, radios: &Radios) -> usize
         ensures { result ≡ new_radios (map pair_of self.entry.pairs.now) (keys_held radios.now) group.0 }
     {
@@ -59,6 +61,7 @@ impl<'a> Ordered<'a> {
     }
 
     // How many of the named pairs are not there yet.
+    // Stays: named and radios apart, since they are sent in list order and set in rising order.
     pub fn new_pairs(self, named: &Groups, radios: &Radios) -> usize
         requires { new_pairs (map pair_of self.pairs.now) (keys_held radios.now) (keys_held named.now) ≤ max_numbers * max_numbers }
         ensures { result ≡ new_pairs (map pair_of self.entry.pairs.now) (keys_held radios.now) (keys_held named.now) }

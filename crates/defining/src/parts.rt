@@ -41,6 +41,8 @@ fn lists_fault(asker: Itsi, lists: DefineLists) -> Result<(), Refusal>
     Ok(())
 }
 
+// The lists read, each once.
+// Stays: asker and place apart, as a define is handed over.
 pub fn parts_of(asker: Itsi, place: [u32; PLACES]) -> Parts
     ensures { result ≡ parts_of asker place }
 {

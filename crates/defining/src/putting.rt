@@ -25,6 +25,7 @@ fn behind(place: Result<usize, usize>) -> usize
 }
 
 // How far rows are put, from the last down: so many stand as they were before the last that was put, and so many new ones come among them.
+// Stays: two counts, and no twin of store's Stretch, which has two places.
 #[derive(Clone, Copy)]
 pub struct Step {
     pub left: usize,

@@ -6,6 +6,7 @@ use order::keys::keys_named;
 use order::{Groups, Itsi, Numbers, Radios};
 
 // The groups that a delete names, whether they go, and whether radios of them are deassigned: those listed, or all.
+// Stays: remove and deassign are asked each for itself, and neither says whether radios are listed: those are an option.
 #[derive(Clone, Copy)]
 pub struct Asked {
     pub groups: Groups,
@@ -15,6 +16,7 @@ pub struct Asked {
 }
 
 // The lists read, each once.
+// Stays: asker, groups, deassign and radios apart, as they are handed over: form_fault judges them before what is read counts.
 pub fn read(
     asker: Itsi,
     groups: Numbers,

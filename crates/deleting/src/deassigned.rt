@@ -23,6 +23,7 @@ pub struct Pairs<'a> {
 }
 
 // A deassign order to the radio of each row, from place `at` on.
+// Stays: out and at apart, here and below, since out is lent anew to each call and at moves on between them.
 fn push_rows(rows: &[[u64; PAIR_WORDS]], group: GroupKey, out: &mut [[u64; ORDER_WORDS]], at: usize)
     requires { at + length rows.now ≤ length out.old }
     ensures { out.new ≡ paste out.old at (deassign_rows group.0 (map radio_in rows.now)) (length rows.now) }
@@ -34,6 +35,7 @@ fn push_rows(rows: &[[u64; PAIR_WORDS]], group: GroupKey, out: &mut [[u64; ORDER
 
 impl<'a> Pairs<'a> {
     // Whether a group has a radio.
+    // Stays: has_pair of a define says the same of what it holds; each stands on its own struct's order, and store's rows may be any.
     fn has(self, group: GroupKey, radio: RadioKey) -> bool
         ensures { result ≡ present (find same_pair (map pair_of self.entry.rows.now) (group.0, radio.0)) }
     {

@@ -4,7 +4,7 @@ use mathlib.Core.List.{List, [], ◌∷◌, ◌++◌, map, append-nil, map-appen
 use Prim.Native.Nat.{ℕ, ◌+◌, ◌≤◌, ◌<◌}
 use native.Mathlib.Numerals.{add-one}
 use native.Mathlib.Omega.{arith}
-use borrow.Author.Tests.{le-leb, lt-leb}
+use borrow.Author.Tests.{le-leb}
 use lib.ListN.{length, get_or, set, take, drop, length-append, length-map, take-append-drop, get_or-map}
 use lib.Seq.{take-suc, paste, paste-suc, take-length, take-append_seam, drop-append-add, drop-drop}
 use Rattle.rules.specs.Lists.{join}
@@ -15,12 +15,9 @@ use Rattle.store.specs.Storage.{Rows}
 use Rattle.replies.specs.Sending.{order_row}
 use Rattle.sending.specs.Pushed.{pushed}
 
--- rows that fit are laid, others are not
+-- rows that fit are laid
 pub pushed-fits : (room : Rows) (at : ℕ) (rows : Rows) → at + length rows ≤ length room → pushed room at rows ≡ paste room at rows (length rows)
 pushed-fits room at rows h = rw (le-leb (at + length rows) (length room) h)
-
-pub pushed-over : (room : Rows) (at : ℕ) (rows : Rows) → length room < at + length rows → pushed room at rows ≡ room
-pushed-over room at rows h = rw (lt-leb (at + length rows) (length room) h)
 
 pub length-rows : (kind g : ℕ) (radios : List ℕ) → length (map order_row (orders kind g radios)) ≡ length radios
 length-rows kind g radios = length-map (orders kind g radios) order_row ∙ length-map radios (λ (r : ℕ). record { kind = kind; radio = r; group = g })

@@ -66,6 +66,7 @@ fn names(groups: &Groups, radios: Option<&Radios>, row: [u64; PAIR_WORDS]) -> bo
 }
 
 // The row of a pair after a turn, where it stays; a pair that the order names and that does not go is leaving, from 0 ticks on.
+// Stays: by Turn, as turn-pairs-unique wants a determined turn.
 fn turned(turn: Turn, named: bool, row: [u64; PAIR_WORDS]) -> Option<[u64; PAIR_WORDS]>
     ensures { result ≡ row_of (pair_of row).0 (turned turn named (pair_of row).1) }
 {
