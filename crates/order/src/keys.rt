@@ -119,7 +119,8 @@ pub fn group_in(asker: Itsi, identity: Identity) -> GroupKey
 }
 
 // The keys of a list; none where it is not given, or names too many.
-// Stays: one line, with the bound of groups and radios, as `too_many` and `too_many_owners` have theirs.
+// Stays: one line, with the bound of groups and radios, as `too_many` and `too_many_owners` have theirs; asker and list apart, since
+// an order has one asker and up to three lists.
 pub fn keys_named<K: Key>(asker: Itsi, list: Option<Numbers>) -> Keys<K, MAX_NUMBERS>
     ensures { result ≡ keys_as (fitting max_numbers (numbers_in asker.1 (list_of list))) }
 {

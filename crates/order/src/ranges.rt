@@ -18,6 +18,7 @@ fn crossed(first: Identity, last: Identity, home: u32) -> bool
 }
 
 // A range with such ends.
+// Stays: home and list apart, since the home is the asker's, and one for all lists of an order.
 fn crossed_ends(home: u32, listed: &Numbers) -> bool
     ensures { result ≡ bad_range home (some (numbers_of listed.now)) }
 {

@@ -14,6 +14,7 @@ use table::place::define::*;
 use table::place::*;
 
 // Whether an optional element is there and says "yes".
+// Stays: place and k apart, since k is another place at each call, and so is what bounds it.
 fn optional_yes(place: [u32; PLACES], k: usize) -> bool
     requires { k + 1 < places }
     ensures { result ≡ optional_yes place k }

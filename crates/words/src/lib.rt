@@ -59,6 +59,7 @@ pub fn mark(line: &[u8], at: usize, character: u8) -> Option<usize>
 }
 
 // So many digits.
+// Stays: line and at apart, since at is another place at each call; width too.
 #[tactic(auto, unfolding(crate::specs::Words::digits_at, crate::specs::Words::enough_at))]
 pub fn digits(line: &[u8], at: usize, width: usize) -> Option<Taken<u64>>
     ensures { result ≡ digits_at line.now at width }
