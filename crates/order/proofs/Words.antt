@@ -35,9 +35,9 @@ module _ {F B : Type 0} (g : Mut F (ℕ × Unit {0}) B) (f : F) (h : ℕ → B) 
       split (eqb j i)
       (λ e. let here = eqb-true j i e in rw here (m.2.1 d ∙ call.1))
       (λ e.
-        let there = eqb-false j i e in
-        let rest = subst (λ (q : F). IsFromFnResultFrom g q ys (i + 1) n) call.0 m.4 in
-        made-from n (i + 1) rest j (omega arith) (omega arith))
+      let there = eqb-false j i e in
+      let rest = subst (λ (q : F). IsFromFnResultFrom g q ys (i + 1) n) call.0 m.4 in
+      made-from n (i + 1) rest j (omega arith) (omega arith))
 
   pub made-at : (n : ℕ) → IsFromFnResult g f ys n → (j : ℕ) → j < n → get_or ys j d ≡ h j
   made-at n m j p = made-from n 0 m.each j (omega arith) (omega arith)

@@ -9,7 +9,9 @@ ghost use Rattle.order.specs.Numbers.{radio_number, group_number, radio_at, grou
 
 use crate::rising::sort;
 use crate::spelling::keys_in;
-use crate::{GroupAsked, GroupKey, Gtsi, Identity, Itsi, Key, Numbers, Owners, RadioKey, Radios};
+use crate::{
+    GroupAsked, GroupKey, Gtsi, Identity, Itsi, Key, Most, Numbers, Owners, RadioKey, Radios,
+};
 use rows::{MAX_LISTED_OWNERS, MAX_NUMBERS, MAX_OWNERS};
 use std::marker::PhantomData;
 
@@ -124,7 +126,7 @@ pub fn group_in(asker: Itsi, identity: Identity) -> GroupKey
 pub fn keys_named<K: Key>(asker: Itsi, list: Option<Numbers>) -> Keys<K, MAX_NUMBERS>
     ensures { result ≡ keys_as (fitting max_numbers (numbers_in asker.1 (list_of list))) }
 {
-    keys_in(asker.1, list, MAX_NUMBERS)
+    keys_in(asker.1, list, Most { count: MAX_NUMBERS })
 }
 
 impl<K: Key, const N: usize> Keys<K, N> {
@@ -190,6 +192,9 @@ fn with_asker(asker: RadioKey, listed: &[u64]) -> Owners
 pub fn owners_in(asker: Itsi, list: Option<Numbers>) -> Owners
     ensures { result ≡ keys_as (rising (key (radio_number asker) ∷ fitting max_listed_owners (numbers_in asker.1 (list_of list)))) }
 {
-    let listed: Radios = keys_in(asker.1, list, MAX_LISTED_OWNERS);
+    let most = Most {
+        count: MAX_LISTED_OWNERS,
+    };
+    let listed: Radios = keys_in(asker.1, list, most);
     with_asker(RadioKey::from(asker), listed.as_slice()).rising()
 }

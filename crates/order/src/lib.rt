@@ -10,7 +10,9 @@ pub mod row;
 mod spelling;
 mod values;
 
-ghost use Rattle.std.specs.Prelude.{ℕ, ◌≡◌};
+ghost use Rattle.std.specs.Prelude.{ℕ, ◌≤◌, ◌≡◌};
+ghost use Rattle.rules.specs.Named.{max_numbers};
+ghost use Rattle.rows.specs.Layout.{max_listed};
 
 use keys::Keys;
 use rows::{MAX_LISTED, MAX_NUMBERS, MAX_OWNERS};
@@ -97,6 +99,14 @@ pub struct Identity {
 pub struct Numbers {
     pub code: u32,
     pub identity: [Identity; MAX_LISTED],
+}
+
+// The most numbers that a list may name: not fewer than its identities, and no more than there are places for.
+#[derive(Clone, Copy)]
+struct Most {
+    count: usize,
+    ghost listed: { max_listed ≤ count },
+    ghost placed: { count ≤ max_numbers },
 }
 
 // The lists of a DEFINE record.

@@ -3,11 +3,10 @@ ghost use Rattle.std.specs.Prelude.{◌≤◌, ltb, [], ◌∷◌, ◌≡◌};
 ghost use Rattle.std.proofs.Math.Option.{some};
 ghost use Rattle.rules.specs.Number.{identified};
 ghost use Rattle.rules.specs.Named.{span, crossed, bad_range, too_many, max_numbers, max_listed_owners};
-ghost use Rattle.rows.specs.Layout.{max_listed};
 ghost use Rattle.order.specs.Lists.{identity_of, numbers_of, list_of};
 
 use crate::keys::{extension_in, identity_key};
-use crate::{Identity, Itsi, Numbers};
+use crate::{Identity, Itsi, Most, Numbers};
 use rows::{MAX_LISTED_OWNERS, MAX_NUMBERS};
 
 // "First above last or extensions differ"; `home` is the asker's extension.
@@ -40,19 +39,17 @@ fn too_long(first: u64, last: u64, most: usize) -> bool
 }
 
 // Whether a list names more than `most` numbers: only a range can.
-fn more_than(home: u32, listed: &Numbers, most: usize) -> bool
-    requires { max_listed ≤ most }
-    ensures { result ≡ too_many most home (some (numbers_of listed.now)) }
+fn more_than(home: u32, listed: &Numbers, most: Most) -> bool
+    ensures { result ≡ too_many most.count home (some (numbers_of listed.now)) }
 {
     let first = identity_key(listed.identity[0], home);
     let last = identity_key(listed.identity[1], home);
-    listed.code == 1 && too_long(first, last, most)
+    listed.code == 1 && too_long(first, last, most.count)
 }
 
 // The same of a list that may not be given.
-fn exceeds(home: u32, list: Option<Numbers>, most: usize) -> bool
-    requires { max_listed ≤ most }
-    ensures { result ≡ too_many most home (list_of list) }
+fn exceeds(home: u32, list: Option<Numbers>, most: Most) -> bool
+    ensures { result ≡ too_many most.count home (list_of list) }
 {
     list.is_some_and(|n| more_than(home, &n, most))
 }
@@ -61,12 +58,18 @@ fn exceeds(home: u32, list: Option<Numbers>, most: usize) -> bool
 pub fn too_many(asker: Itsi, list: Option<Numbers>) -> bool
     ensures { result ≡ too_many max_numbers asker.1 (list_of list) }
 {
-    exceeds(asker.1, list, MAX_NUMBERS)
+    exceeds(asker.1, list, Most { count: MAX_NUMBERS })
 }
 
 // Whether a list of owners does.
 pub fn too_many_owners(asker: Itsi, list: Option<Numbers>) -> bool
     ensures { result ≡ too_many max_listed_owners asker.1 (list_of list) }
 {
-    exceeds(asker.1, list, MAX_LISTED_OWNERS)
+    exceeds(
+        asker.1,
+        list,
+        Most {
+            count: MAX_LISTED_OWNERS,
+        },
+    )
 }

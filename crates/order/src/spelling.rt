@@ -3,13 +3,12 @@ ghost use Rattle.std.specs.Prelude.{◌+◌, ◌^◌, ◌≤◌, [], map, ◌≡
 ghost use Rattle.rules.specs.Lists.{once};
 ghost use Rattle.rules.specs.Number.{used, identity_key};
 ghost use Rattle.rules.specs.Named.{consecutive, span, numbers, numbers_in, max_numbers};
-ghost use Rattle.rows.specs.Layout.{max_listed};
 ghost use Rattle.order.specs.Keys.{fitting, keys_as};
 ghost use Rattle.order.specs.Lists.{numbers_of, list_of};
 
-use crate::Numbers;
 use crate::keys::{Keys, identity_key};
 use crate::lists::member;
+use crate::{Most, Numbers};
 use rows::MAX_NUMBERS;
 use std::marker::PhantomData;
 
@@ -61,20 +60,18 @@ fn consecutive_keys<K>(first: u64, count: usize) -> Keys<K, MAX_NUMBERS>
 }
 
 // The keys of a range, from its first to its last; none where they are more than `most`. No number past the last is made.
-fn range_keys<K>(first: u64, last: u64, most: usize) -> Keys<K, MAX_NUMBERS>
-    requires { most ≤ max_numbers }
-    ensures { result ≡ keys_as (fitting most (consecutive first (span first last))) }
+fn range_keys<K>(first: u64, last: u64, most: Most) -> Keys<K, MAX_NUMBERS>
+    ensures { result ≡ keys_as (fitting most.count (consecutive first (span first last))) }
 {
-    if last < first || most as u64 <= last - first {
+    if last < first || most.count as u64 <= last - first {
         return no_keys();
     }
     consecutive_keys(first, (last - first) as usize + 1)
 }
 
 // The keys of a list; none where they are more than `most`.
-fn keys_of<K>(home: u32, listed: &Numbers, most: usize) -> Keys<K, MAX_NUMBERS>
-    requires { (max_listed ≤ most) × (most ≤ max_numbers) }
-    ensures { result ≡ keys_as (fitting most (numbers home (numbers_of listed.now))) }
+fn keys_of<K>(home: u32, listed: &Numbers, most: Most) -> Keys<K, MAX_NUMBERS>
+    ensures { result ≡ keys_as (fitting most.count (numbers home (numbers_of listed.now))) }
 {
     if listed.code == 1 {
         let first = identity_key(listed.identity[0], home);
@@ -85,9 +82,8 @@ fn keys_of<K>(home: u32, listed: &Numbers, most: usize) -> Keys<K, MAX_NUMBERS>
 }
 
 // The keys of a list, none where it is not given.
-pub fn keys_in<K>(home: u32, list: Option<Numbers>, most: usize) -> Keys<K, MAX_NUMBERS>
-    requires { (max_listed ≤ most) × (most ≤ max_numbers) }
-    ensures { result ≡ keys_as (fitting most (numbers_in home (list_of list))) }
+pub fn keys_in<K>(home: u32, list: Option<Numbers>, most: Most) -> Keys<K, MAX_NUMBERS>
+    ensures { result ≡ keys_as (fitting most.count (numbers_in home (list_of list))) }
 {
     match list {
         Some(listed) => keys_of(home, &listed, most),

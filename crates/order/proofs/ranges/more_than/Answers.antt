@@ -16,8 +16,8 @@ returns-then-listed-eq1 c =
     let ten : length n.identity ≡ 10 = search rules in
     let first = c.identity_key-first.ensures in
     let last = c.identity_key-last.ensures in
-    range-long a.home n.identity nobody ten n.code a.most _ (eq-eqb n.code 1 c.if-listed-eq1.true)
-    (c.too_long.ensures ∙ (λ i. ltb a.most (span (first i) (last i))))
+    range-long a.home n.identity nobody ten n.code a.most.count _ (eq-eqb n.code 1 c.if-listed-eq1.true)
+    (c.too_long.ensures ∙ (λ i. ltb a.most.count (span (first i) (last i))))
 
 pub returns-else-listed-eq1 : goal.returns-else-listed-eq1
 returns-else-listed-eq1 c =
@@ -25,4 +25,4 @@ returns-else-listed-eq1 c =
     let n = a.listed.now in
     let ten : length n.identity ≡ 10 = search rules in
     let listed = ne_eqb n.code 1 c.if-listed-eq1.false in
-    listed ∙ listed-short a.home n.identity nobody ten n.code a.most c.requires listed
+    listed ∙ listed-short a.home n.identity nobody ten n.code a.most.count a.most.listed listed

@@ -22,8 +22,8 @@ returns-then-listed-eq1 g c =
     let range = eq-eqb n.code 1 c.if-listed-eq1.true in
     let first = c.identity_key-first.ensures in
     let last = c.identity_key-last.ensures in
-    c.range_keys.ensures ∙ (λ i. keys_as (fitting a.most (consecutive (first i) (span (first i) (last i)))))
-    ∙ ap (λ (l : List ℕ). keys_as (fitting a.most l)) (sym (ends-numbers a.home n.identity nobody ten n.code range))
+    c.range_keys.ensures ∙ (λ i. keys_as (fitting a.most.count (consecutive (first i) (span (first i) (last i)))))
+    ∙ ap (λ (l : List ℕ). keys_as (fitting a.most.count l)) (sym (ends-numbers a.home n.identity nobody ten n.code range))
 
 pub returns : goal.returns
 returns g c =
@@ -32,5 +32,5 @@ returns g c =
     let ten : length n.identity ≡ 10 = search rules in
     let listed = ne_eqb n.code 1 c.if-listed-eq1.false in
     let all = numbers a.home (numbers_of n) in
-    let few : length all ≤ a.most = omega (arith, c.requires.0, listed-few a.home n.identity nobody ten n.code listed) in
-    c.listed_keys.ensures ∙ ap keys_as (sym (listed-numbers a.home (numbers_of n) listed) ∙ sym (fitting-all a.most all few))
+    let few : length all ≤ a.most.count = omega (arith, a.most.listed, listed-few a.home n.identity nobody ten n.code listed) in
+    c.listed_keys.ensures ∙ ap keys_as (sym (listed-numbers a.home (numbers_of n) listed) ∙ sym (fitting-all a.most.count all few))
