@@ -1,17 +1,18 @@
 -- A walk over rows, of the reader or of the writer: what both have in common, so that the laws of elements are said once.
 -- Assumes nothing.
-use Prim.Native.Nat.{ℕ, zero, suc, ◌+◌, ◌-◌, ◌<◌}
-use mathlib.Core.Path.{◌≡◌, refl, ap, sym, ◌∙◌, subst}
+use Prim.Native.Nat.{ℕ, ◌+◌, ◌-◌, ◌<◌}
+use mathlib.Core.Path.{◌≡◌, ap, sym, ◌∙◌, subst}
 use mathlib.Core.Bool.{true, false}
 use mathlib.Core.List.{List, [], ◌∷◌, ◌++◌}
 use mathlib.Core.Logic.{◌⊎◌}
 use native.Mathlib.Omega.{arith}
-use lib.ListN.{length, take, drop, get_or, replicate}
+use lib.ListN.{length, take, drop, get_or}
 use lib.Seq.{get_or-take, get_or-drop}
 use Rattle.refusal.specs.declared.Refusal.{Refusal}
 use Rattle.layout.specs.Row.{Row, Condition, present}
 use Rattle.layout.specs.Shape.{row}
 use Rattle.table.specs.Sound.{Clear}
+pub use Rattle.layout.proofs.Absent.{clear_none}
 
 -- `Goes rows at p x y r`: from the bit `at` and the state x the walk passes rows that begin at the place p, to the state y, with the result r
 pub record Walk : Type 1 where
@@ -39,15 +40,6 @@ pub record Walk : Type 1 where
   pub stays : (rows : List Row) (at at₁ p : ℕ) (x y : State) → Goes rows at p x y (next at₁)
       → drop (p + length rows) (values y) ≡ drop (p + length rows) (values x)
   pub size : (rows : List Row) (at p : ℕ) (x y : State) (r : Result) → Goes rows at p x y r → length (values y) ≡ length (values x)
-
--- where all is 0
-pub clear_none : (n p : ℕ) → Clear (replicate n 0) p
-clear_none n p q h = go n q
-  where
-    go : (n q : ℕ) → get_or {A = ℕ} (replicate n 0) q 0 ≡ 0
-    go zero q = refl
-    go (suc n) zero = refl
-    go (suc n) (suc q) = go n q
 
 -- places that held 0 hold it still, where what is after n places stays
 pub clear_later : (n p : ℕ) (vs vs' : List ℕ) → drop (p + n) vs' ≡ drop (p + n) vs → Clear vs p → Clear vs' (p + n)

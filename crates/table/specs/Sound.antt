@@ -1,15 +1,12 @@
 -- What the reader and the writer ask of a table: every element can be read and written at its place.
 -- Assumes nothing.
-use Rattle.std.specs.Prelude.{ℕ, ◌+◌, ◌≤◌, ◌≡◌, Bool, true, ◌&&◌, List, [], ◌∷◌, leb, ltb, get_or}
+use Rattle.std.specs.Prelude.{ℕ, ◌+◌, Bool, true, ◌&&◌, List, [], ◌∷◌, leb, ltb}
 use Rattle.layout.specs.declared.Element.{Element}
 use Rattle.layout.specs.declared.Shape.{Shape}
 use Rattle.layout.specs.declared.Shape.TheVariants.{Number, Choice, Identity, Ending, Missing, Nothing}
 use Rattle.layout.specs.declared.Shape.TheVariants as shape
 use Rattle.layout.specs.Shape.{span}
-
--- the places from p on hold 0
-abbrev pub Clear : List ℕ → ℕ → Type 0
-Clear vs p = (q : ℕ) → p ≤ q → get_or vs q 0 ≡ 0
+pub use Rattle.layout.specs.Row.{Clear}
 
 -- a shape that the code can read and write at a place: fields of 1 to 24 bits, and looks at earlier places only
 unfoldable pub sound : Shape → ℕ → Bool
