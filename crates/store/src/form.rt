@@ -109,7 +109,7 @@ fn groups_ok(groups: &[[u64; GROUP_WORDS]]) -> bool
 pub fn timed(state: u64) -> bool
     ensures { result ≡ timed state }
 {
-    state == WAITING || state == LEAVING
+    (state == WAITING) | (state == LEAVING)
 }
 
 // Whether a mark is in its range.
@@ -119,14 +119,14 @@ fn mark_ok(row: [u64; PAIR_WORDS]) -> bool
     if timed(row[PAIR_STATE]) {
         return row[PAIR_TICKS] < T1;
     }
-    row[PAIR_STATE] <= LEAVING_UNHEARD && row[PAIR_TICKS] == 0
+    (row[PAIR_STATE] <= LEAVING_UNHEARD) & (row[PAIR_TICKS] == 0)
 }
 
 // Whether a pair of the group at hand is in its form, its radio none below `least`; its row is the row of the pair.
 fn pair_ok(row: [u64; PAIR_WORDS], least: u64) -> bool
     ensures { (result ≡ good_next least (pair_of row)) × (pair_row (pair_of row) ≡ row) }
 {
-    least <= row[PAIR_RADIO] && row[PAIR_RADIO] < KEY_LIMIT && mark_ok(row)
+    (least <= row[PAIR_RADIO]) & (row[PAIR_RADIO] < KEY_LIMIT) & mark_ok(row)
 }
 
 // Whether every pair is in its form and stands in its group's stretch, the stretches as the groups: a turn goes on by a pair or by a group.
