@@ -30,7 +30,7 @@ use store::named::any_group;
 use table::place::YES;
 use table::place::define::CALL_RELATED;
 
-// How many keys a list has: no more than it has places for.
+// How many keys a list has: no more than it has places for, which Keys::len does not say.
 fn key_count<K: Key>(keys: &Keys<K, MAX_NUMBERS>) -> usize
     ensures value { result ≡ length (keys_held keys.now) }
     ensures few { result ≤ max_numbers }
