@@ -1,133 +1,120 @@
 // The lines of standard input: bytes are read as many as come, and a line is held until its end has come.
-ghost use Rattle.std.specs.Prelude.{◌≤◌, length};
-ghost use Rattle.desk.specs.Room.{Within};
+ghost use Rattle.std.specs.Prelude.{◌≡◌, ◌+◌, ◌-◌, ◌≤◌, length};
 
+use memchr::memchr;
 use std::io::{Error, ErrorKind, Read};
 
-// How many bytes of a line are held, and which of the bytes read are still to be taken, from `at` on and before `end`;
-// whether the line is whole, and whether more may come.
+// How many bytes one read brings at most.
+const BUFFER: usize = 4096;
+
+// The longest line is a D with the longest house text, 457 bytes; one more shows that a line is too long.
+const LINE: usize = 458;
+
+// A read or a write failed, and that was told.
 #[derive(Clone, Copy)]
-pub struct Input {
-    pub held: usize,
-    pub at: usize,
-    pub end: usize,
-    pub whole: bool,
-    pub open: bool,
+pub struct Failed;
+
+// The line that is held so far: the first `held` bytes. An array of fixed size: no heap.
+#[derive(Drop)]
+pub struct Line {
+    bytes: [u8; LINE],
+    held: usize,
+    ghost within: { held ≤ length bytes },
 }
 
-// The input before anything was read.
-pub fn unread() -> Input
-    ensures { Within 0 0 result }
-{
-    Input {
-        held: 0,
-        at: 0,
-        end: 0,
-        whole: false,
-        open: true,
-    }
-}
-
-// Holds one byte more: how many are held then. What is over the room for a line is not held: such a line is bad, whatever follows.
-fn hold(byte: u8, line: &mut [u8], held: usize) -> usize
-    requires { held ≤ length line.old }
-    ensures { result ≤ length line.new }
-{
-    if held == line.len() {
-        return held;
-    }
-    line[held] = byte;
-    held + 1
-}
-
-// Takes bytes from `from` on up to the end of the line, or up to `end`.
-fn take_bytes(bytes: &[u8], from: usize, end: usize, line: &mut [u8], before: usize) -> Input
-    requires { (before ≤ length line.old) × (end ≤ length bytes.now) }
-    ensures { Within (length line.new) (length bytes.now) result }
-{
-    let mut held = before;
-    let mut at = from;
-    while at < end {
-        let byte = bytes[at];
-        at += 1;
-        if byte == b'\n' {
-            return Input {
-                held,
-                at,
-                end,
-                whole: true,
-                open: true,
-            };
+impl Line {
+    // No byte is held.
+    pub fn new() -> Self {
+        Line {
+            bytes: [0; LINE],
+            held: 0,
         }
-        held = hold(byte, line, held);
     }
-    Input {
-        held,
-        at,
-        end,
-        whole: false,
-        open: true,
+
+    pub fn as_slice(&self) -> &[u8] {
+        &self.bytes[..self.held]
+    }
+
+    // Lets go of the line, for the next.
+    pub fn clear(&mut self) {
+        self.held = 0;
+    }
+
+    // Holds more bytes. What is over the room is not held: such a line is bad, whatever follows.
+    fn hold(&mut self, more: &[u8]) {
+        let count = more.len().min(LINE - self.held);
+        let end = self.held + count;
+        self.bytes[self.held..end].copy_from_slice(&more[..count]);
+        self.held = end;
     }
 }
 
-// Whether a read that failed was only interrupted. Any other failure is told, with the reason, and so is an unfinished line: nothing says that
-// it was to end there, so it is no order.
-fn interrupted(rt: &impl Eprint, error: Error, held: usize) -> bool {
-    if error.kind() == ErrorKind::Interrupted {
-        return true;
-    }
-    let _ = eprintln!(rt; "desk: standard input could not be read: {error}");
-    if 0 < held {
-        let _ = eprintln!(rt; "desk: the unfinished last line is not carried out");
-    }
-    false
+// What one read brought, of which the bytes from `at` on and before `end` are still to be taken. An array of fixed size: no heap.
+#[derive(Drop)]
+pub struct Input {
+    bytes: [u8; BUFFER],
+    at: usize,
+    end: usize,
+    ghost within: { (at ≤ end) × (end ≤ length bytes) },
 }
 
-// Reads once. At the end of the input a last line that lacks its newline is whole. An interrupted read brings nothing, and the next turn reads again.
-fn read_bytes(rt: &impl Eprint, reader: &mut impl Read, bytes: &mut [u8], held: usize) -> Input
-    ensures { Within held (length bytes.new) result }
-{
-    match reader.read(bytes) {
-        Ok(count) => Input {
-            held,
-            at: 0,
-            end: count,
-            whole: (count == 0) & (0 < held),
-            open: 0 < count,
-        },
-        Err(error) => Input {
-            held,
+impl Input {
+    // Nothing was read.
+    pub fn new() -> Self {
+        Input {
+            bytes: [0; BUFFER],
             at: 0,
             end: 0,
-            whole: false,
-            open: interrupted(rt, error, held),
-        },
+        }
+    }
+
+    // Takes what was read up to the end of the line, which holds it: whether that end has come.
+    pub fn take_line(&mut self, line: &mut Line) -> bool {
+        let rest = &self.bytes[self.at..self.end];
+        match memchr(b'\n', rest) {
+            Some(count) => {
+                line.hold(&rest[..count]);
+                self.at += count + 1;
+                true
+            }
+            None => {
+                line.hold(rest);
+                self.at = self.end;
+                false
+            }
+        }
+    }
+
+    // Reads once, where all that was read is taken: whether the input goes on. An interrupted read brings nothing, and the next turn reads again.
+    pub fn read_more(
+        &mut self,
+        rt: &impl Eprint,
+        reader: &mut impl Read,
+        line: &Line,
+    ) -> Result<bool, Failed> {
+        self.at = 0;
+        self.end = 0;
+        match reader.read(&mut self.bytes) {
+            Ok(count) => {
+                self.end = count;
+                Ok(0 < count)
+            }
+            Err(error) => {
+                if error.kind() == ErrorKind::Interrupted {
+                    Ok(true)
+                } else {
+                    Err(tell(rt, error, line))
+                }
+            }
+        }
     }
 }
 
-// How many bytes are held of the line to come: none behind a whole line.
-fn kept(input: Input) -> usize
-    ensures { result ≤ input.held }
-{
-    if input.whole { 0 } else { input.held }
-}
-
-// One turn: takes bytes up to the end of a line, or reads where all are taken.
-pub fn turn(
-    rt: &impl Eprint,
-    reader: &mut impl Read,
-    input: Input,
-    bytes: &mut [u8],
-    line: &mut [u8],
-) -> Input
-    requires { Within (length line.old) (length bytes.old) input }
-    ensures { Within (length line.new) (length bytes.new) result }
-{
-    let held = kept(input);
-    let at = input.at;
-    let end = input.end;
-    if at < end {
-        return take_bytes(bytes, at, end, line, held);
+// Tells of a read that failed, with the reason, and of an unfinished line: nothing says that it was to end there, so it is no order.
+fn tell(rt: &impl Eprint, error: Error, line: &Line) -> Failed {
+    let _ = eprintln!(rt; "desk: standard input could not be read: {error}");
+    if 0 < line.held {
+        let _ = eprintln!(rt; "desk: the unfinished last line is not carried out");
     }
-    read_bytes(rt, reader, bytes, held)
+    Failed
 }

@@ -1,104 +1,96 @@
-// M: a word of the lent storage is set, as failing memory would set it.
-use ledger::{GROUP_WORDS, HEAD_WORDS, MAX_GROUPS, MAX_PAIRS, PAIR_WORDS, Reply};
+// The storage that is lent to the ledger; and M: a word of it is set, as failing memory would set it.
+use ledger::{
+    ENTRY_WORDS, GROUP_WORDS, HEAD_WORDS, MAX_GROUPS, MAX_PAIRS, ORDER_WORDS, PAIR_WORDS,
+};
 use refusal::Refusal;
 use words::{mark, word};
 
-// The word that a line names, and its new value: part is H, G or P, for head, groups and pairs; 0 where the line is bad.
+// What is lent to the ledger: its storage, and places for the orders and the radios of a reply. Arrays of fixed size: no heap.
+#[derive(Drop)]
+pub struct Storage {
+    pub head: [u64; HEAD_WORDS],
+    pub groups: [[u64; GROUP_WORDS]; MAX_GROUPS],
+    pub pairs: [[u64; PAIR_WORDS]; MAX_PAIRS],
+    pub orders: [[u64; ORDER_WORDS]; MAX_PAIRS],
+    pub radios: [[u64; ENTRY_WORDS]; MAX_PAIRS],
+}
+
+// A part of the ledger's storage.
+#[derive(Clone, Copy)]
+enum Part {
+    Head,
+    Groups,
+    Pairs,
+}
+
+impl TryFrom<u8> for Part {
+    type Error = Refusal;
+
+    fn try_from(letter: u8) -> Result<Self, Refusal> {
+        match letter {
+            b'H' => Ok(Part::Head),
+            b'G' => Ok(Part::Groups),
+            b'P' => Ok(Part::Pairs),
+            _ => Err(Refusal::BadLine),
+        }
+    }
+}
+
+// The word that a line names, and its new value.
 #[derive(Clone, Copy)]
 struct Setting {
-    part: u8,
+    part: Part,
     row: usize,
     at: usize,
     value: u64,
-}
-
-// The letter at a place of a line; 0 where there is none.
-pub fn letter(line: &[u8], at: usize) -> u8 {
-    if at < line.len() { line[at] } else { 0 }
-}
-
-// What a bad line is answered with, and a word that is not there.
-pub fn bad_line() -> Reply {
-    Reply::Refused(Refusal::BadLine)
 }
 
 // M: part, row, word, value.
-fn read_setting(line: &[u8]) -> Setting {
-    let part = letter(line, 2);
-    let row = word(line, mark(line, mark(line, 1, b' '), part), 4);
-    let at = word(line, row.next, 4);
-    let value = word(line, at.next, 16);
-    Setting {
-        part: if value.next == line.len() { part } else { 0 },
+fn read_setting(line: &[u8]) -> Option<Setting> {
+    let from = mark(line, 1, b' ')?;
+    let part = Part::try_from(*line.get(from)?).ok()?;
+    let row = word(line, from + 1, 4)?;
+    let at = word(line, row.next, 4)?;
+    let value = word(line, at.next, 16)?;
+    if value.next != line.len() {
+        return None;
+    }
+    Some(Setting {
+        part,
         row: row.value as usize,
         at: at.value as usize,
         value: value.value,
-    }
+    })
 }
 
-// Sets a word of the head, which has one row.
-fn set_head(head: &mut [u64; HEAD_WORDS], row: usize, at: usize, value: u64) -> Reply {
-    if 0 < row {
-        return bad_line();
+// Sets a word of one of so many rows.
+fn set<const WORDS: usize>(rows: &mut [[u64; WORDS]], setting: Setting) -> Result<(), Refusal> {
+    if rows.len() <= setting.row || WORDS <= setting.at {
+        return Err(Refusal::BadLine);
     }
-    if head.len() <= at {
-        return bad_line();
-    }
-    head[at] = value;
-    Reply::Done
+    rows[setting.row][setting.at] = setting.value;
+    Ok(())
 }
 
-// Sets a word of a group's row.
-fn set_group(
-    groups: &mut [[u64; GROUP_WORDS]; MAX_GROUPS],
-    row: usize,
-    at: usize,
-    value: u64,
-) -> Reply {
-    if groups.len() <= row {
-        return bad_line();
+impl Storage {
+    // Before the first order: no word is written.
+    pub fn new() -> Self {
+        Storage {
+            head: [0; HEAD_WORDS],
+            groups: [[0; GROUP_WORDS]; MAX_GROUPS],
+            pairs: [[0; PAIR_WORDS]; MAX_PAIRS],
+            orders: [[0; ORDER_WORDS]; MAX_PAIRS],
+            radios: [[0; ENTRY_WORDS]; MAX_PAIRS],
+        }
     }
-    if GROUP_WORDS <= at {
-        return bad_line();
-    }
-    let mut words = groups[row];
-    words[at] = value;
-    groups[row] = words;
-    Reply::Done
-}
 
-// Sets a word of a pair's row.
-fn set_pair(
-    pairs: &mut [[u64; PAIR_WORDS]; MAX_PAIRS],
-    row: usize,
-    at: usize,
-    value: u64,
-) -> Reply {
-    if pairs.len() <= row {
-        return bad_line();
-    }
-    if PAIR_WORDS <= at {
-        return bad_line();
-    }
-    let mut words = pairs[row];
-    words[at] = value;
-    pairs[row] = words;
-    Reply::Done
-}
-
-// Sets the word that a line names.
-pub fn set_word(
-    line: &[u8],
-    head: &mut [u64; HEAD_WORDS],
-    groups: &mut [[u64; GROUP_WORDS]; MAX_GROUPS],
-    pairs: &mut [[u64; PAIR_WORDS]; MAX_PAIRS],
-) -> Reply {
-    let setting = read_setting(line);
-    let part = setting.part;
-    match part {
-        b'H' => set_head(head, setting.row, setting.at, setting.value),
-        b'G' => set_group(groups, setting.row, setting.at, setting.value),
-        b'P' => set_pair(pairs, setting.row, setting.at, setting.value),
-        _ => bad_line(),
+    // Sets the word that a line names; the head has one row.
+    pub fn set_word(&mut self, line: &[u8]) -> Result<(), Refusal> {
+        let setting = read_setting(line).ok_or(Refusal::BadLine)?;
+        match setting.part {
+            Part::Head => set(std::slice::from_mut(&mut self.head), setting),
+            Part::Groups => set(&mut self.groups, setting),
+            Part::Pairs => set(&mut self.pairs, setting),
+        }
     }
 }

@@ -1,2 +1,0 @@
--- The definitions that the contracts of `desk` cite.
-pub mod Room
