@@ -139,6 +139,7 @@ fn lay_number(bytes: &mut [u8], number: u64)
 
 // Lays the lowest `width` bits of `value` into the bits of `out` from `at` on.
 // Changes nothing where the field ends past `out`, or is wider than 32 bits.
+// Stays: at and width apart, as `Reader` keeps the place and is told a width alone; put-field-unique speaks of any two.
 pub fn put_field(out: &mut [u8], at: usize, width: usize, value: u32)
     ensures { out.new ≡ put_at out.old at width value }
 {

@@ -29,6 +29,7 @@ pub fn read(kind: Kind, frame: &[u8], bits: usize) -> Result<Record, Refused>
 }
 
 // Whether a record has a code: 4 over the whole record, then 5.
+// Stays: kind and values apart, here and below: the kind is told by the caller, and the record's places alone are lent.
 pub fn fault(kind: Kind, values: &[u32; PLACES]) -> Result<(), Refusal>
     ensures { result ≡ judged_of kind values.now }
 {

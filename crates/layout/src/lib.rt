@@ -106,6 +106,7 @@ pub struct Record {
 }
 
 // The reader's error: a refusal, and the bit at which the refused element begins.
+// Stays: two values, as words' `Taken` has two, and no twin of it: an error, and what was taken.
 #[derive(Clone, Copy, Debug, PartialEq, Eq)]
 pub struct Refused {
     pub refusal: Refusal,

@@ -19,6 +19,7 @@ pub enum Identity {
 
 pub trait Fill: Sized {
     // A value at a place.
+    // Stays: place and value apart, each another at each call.
     fn put(self, place: usize, value: u32) -> Self
         requires { place < places };
 
