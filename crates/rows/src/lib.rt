@@ -81,6 +81,7 @@ pub const ENTRY_RADIO: usize = 0;
 pub const ENTRY_STATE: usize = 2;
 
 // The states of a pair that code looks at; and T1, the ticks after which a waiting or leaving pair is unheard.
+// Stays: states are words, and no enum, since a lent row may hold any word, and a list tells the word.
 pub const WAITING: u64 = 1;
 
 pub const CONFIRMED: u64 = 2;
