@@ -84,15 +84,18 @@ pub fn tick(
     Ok(())
 }
 
-// Whether a pair stands in a state that is open for an answer of this kind.
-fn is_open(kind: AnswerKind, state: Option<u64>) -> bool
-    ensures { result ≡ open? kind (as_mark state) }
+// Whether a pair is found, and open for an answer of this kind.
+// Stays: a match on what an answer is for, which the order brings (answer-unique).
+fn is_open(kind: AnswerKind, found: Option<u64>) -> bool
+    ensures { result ≡ open? kind (as_mark found) }
 {
-    matches!(
-        (kind, state),
-        (AnswerKind::Assignment, Some(WAITING | UNHEARD))
-            | (AnswerKind::Deassignment, Some(LEAVING | LEAVING_UNHEARD))
-    )
+    let Some(state) = found else {
+        return false;
+    };
+    match kind {
+        AnswerKind::Assignment => matches!(state, WAITING | UNHEARD),
+        AnswerKind::Deassignment => matches!(state, LEAVING | LEAVING_UNHEARD),
+    }
 }
 
 // What an answer is refused with.

@@ -6,7 +6,8 @@ use mathlib.Core.Option.{none, some}
 use Prim.Native.Nat.{ℕ, ◌+◌, ◌-◌, ◌≤◌, ◌<◌}
 use native.Mathlib.Omega.{arith}
 use lib.Dec.{ltb}
-use lib.ListN.{length, take, drop, length-map}
+use lib.ListN.{length, take, drop, length-map, get_or, length-take, get_or-map}
+use lib.Seq.{get_or-take, get_or-drop}
 use Rattle.std.proofs.lemmas.List.{drop-take}
 use borrow.Author.Tests.{lt-ltb, le-ltb}
 use Rattle.std.specs.Prelude.{Result, Ok, Err, ⊤}
@@ -33,7 +34,7 @@ use Rattle.store.proofs.Stretches.{Stretched, stretched}
 use Rattle.replies.specs.Orders.{JudgesAsker}
 use Rattle.replies.specs.Listing.{entry_row, members_of, Enumerates}
 use Rattle.replies.proofs.Orders.{first_some, reply-some}
-use Rattle.asking.specs.Listed.{listed}
+use Rattle.asking.specs.Listed.{listed, OfGroup}
 use Rattle.asking.proofs.Asking.{asked-none}
 use Rattle.order.proofs.Walks.{map-left}
 
@@ -59,7 +60,8 @@ module _ (c : Contents) (asker : Itsi) (group : Gtsi) (room : Rows) where
   shown rows s = map (λ (row : List ℕ). entry_row (listed (pair_of row))) (stretch_rows rows s)
 
   -- a stretch holds the list: what the room then holds where it fits, and where not
-  pub record Holds (rows : Rows) (s : Stretch) : Type 0 where
+  pub record Holds (g : ℕ) (rows : Rows) (s : Stretch) : Type 0 where
+    pub mine : OfGroup g (stretch_rows rows s)
     pub ordered : s.from ≤ s.to
     pub inside : s.to ≤ length rows
     pub full : length room < length (stretch_rows rows s) → Enumerates c asker group room room (Err NoRoom)
@@ -104,8 +106,18 @@ module _ (c : Contents) (asker : Itsi) (group : Gtsi) (room : Rows) where
         first-none (ask_tests (view (ledger_of c)) (radio_number asker) (group_number group)) last (asked-none c asker group j done)
         ∙ ap (λ (z : ℕ). cond (ltb (length room) z) (some NoRoom) none) (sym (counted ∙ length-map (members (ledger_of c) (key (group_number group))) _))
 
-    pub holds : Holds rows s
+    of-group : OfGroup g (stretch_rows rows s)
+    of-group i h =
+        let k = stretch_rows rows s in
+        let n : s.from + i < s.to = omega (arith, stretch.ordered, length-take (s.to - s.from) (drop s.from rows), h) in
+        let at : pair_of (get_or k i []) ≡ get_or (ledger_of c).pairs (s.from + i) (pair_of []) =
+        sym (get_or-map pair_of k i []) ∙ ap (λ (z : List (Pair × Mark)). get_or z i (pair_of [])) pairs-there
+        ∙ get_or-drop s.from (take s.to (ledger_of c).pairs) i (pair_of []) ∙ get_or-take s.to (ledger_of c).pairs (s.from + i) (pair_of []) n in
+        ap (λ (e : Pair × Mark). e.0.0) at ∙ stretch.group (s.from + i) (pair_of []) (omega arith) n
+
+    pub holds : Holds g rows s
     holds = record {
+      mine = of-group;
       ordered = stretch.ordered;
       inside = within;
       full = λ h.

@@ -11,7 +11,7 @@ ghost use Rattle.store.specs.Storage.{contents, pair_of};
 ghost use Rattle.replies.specs.Listing.{entry_row, Enumerates};
 ghost use Rattle.replies.specs.Orders.{JudgesAsker};
 ghost use Rattle.replies.specs.Showing.{show_on, shown_of};
-ghost use Rattle.asking.specs.Listed.{listed};
+ghost use Rattle.asking.specs.Listed.{listed, OfGroup};
 
 use crate::telling::shown_row;
 use order::keys::asked_group;
@@ -19,10 +19,10 @@ use order::lists::{wide_group, wide_radio};
 use order::{GroupAsked, GroupKey, Gtsi, Itsi, RadioKey};
 use refusal::Refusal;
 use replies::Shown;
-use rows::{ENTRY_WORDS, GROUP_WORDS, PAIR_RADIO, PAIR_STATE, PAIR_WORDS};
+use rows::{ENTRY_WORDS, GROUP_WORDS, PAIR_RADIO, PAIR_WORDS};
 use store::form::Lent;
 use store::named::owned_by;
-use store::places::{place, stretch_of};
+use store::places::{place, state_in, stretch_of};
 
 // What a list or a show is refused with, room apart.
 fn ask_fault(lent: Lent<'_>, asker: Itsi, group: Gtsi) -> Result<(), Refusal>
@@ -41,21 +41,25 @@ fn ask_fault(lent: Lent<'_>, asker: Itsi, group: Gtsi) -> Result<(), Refusal>
     )
 }
 
-// A pair's radio and its state, as a row of the room.
-fn entry_row(pair: &[u64; PAIR_WORDS]) -> [u64; ENTRY_WORDS]
-    ensures { result ≡ entry_row (listed (pair_of pair.now)) }
+// A radio and its state, as a row of the room.
+fn entry_row(radio: RadioKey, state: u64) -> [u64; ENTRY_WORDS]
+    ensures { result ≡ entry_row (radio.0, state) }
 {
-    let radio = Itsi::from(RadioKey(pair[PAIR_RADIO]));
-    [radio.0 as u64, radio.1 as u64, pair[PAIR_STATE]]
+    let number = Itsi::from(radio);
+    [number.0 as u64, number.1 as u64, state]
 }
 
-// Pairs are listed at the front of the room.
-fn list_pairs(pairs: &[[u64; PAIR_WORDS]], out: &mut [[u64; ENTRY_WORDS]])
-    requires { length pairs.now ≤ length out.old }
+// A group's pairs are listed at the front of the room: each radio with its state.
+fn list_pairs(pairs: &[[u64; PAIR_WORDS]], group: GroupKey, out: &mut [[u64; ENTRY_WORDS]])
+    requires fits { length pairs.now ≤ length out.old }
+    requires mine { OfGroup group.0 pairs.now }
     ensures { out.new ≡ onto (map (λ row. entry_row (listed (pair_of row))) pairs.now) out.old }
 {
-    for (i, pair) in pairs.iter().enumerate() {
-        out[i] = entry_row(pair);
+    for (i, row) in pairs.iter().enumerate() {
+        let radio = RadioKey(row[PAIR_RADIO]);
+        if let Some(state) = state_in(*row, group, radio) {
+            out[i] = entry_row(radio, state);
+        }
     }
 }
 
@@ -79,12 +83,13 @@ pub fn list(
     let group = asked_group(asker, asked);
     ask_fault(lent, asker, group)?;
     let pairs = lent.pair_rows();
-    let stretch = stretch_of(pairs, GroupKey::from(group));
+    let key = GroupKey::from(group);
+    let stretch = stretch_of(pairs, key);
     let members = &pairs[stretch.from..stretch.to];
     if out.len() < members.len() {
         return Err(Refusal::NoRoom);
     }
-    list_pairs(members, out);
+    list_pairs(members, key, out);
     Ok(members.len())
 }
 

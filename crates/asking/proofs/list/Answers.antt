@@ -15,11 +15,11 @@ returns-in_err-ask_fault c =
 
 -- the group's stretch holds the list
 there : (c : After-stretch_of-stretch) → let a = c.args in
-    Holds (contents a.head.now a.groups.now a.pairs.now) a.asker c.asked_group-group.result a.out.now c.pair_rows-pairs.result.now c.stretch_of-stretch.result
+    Holds (contents a.head.now a.groups.now a.pairs.now) a.asker c.asked_group-group.result a.out.now c.from-key.result.0 c.pair_rows-pairs.result.now c.stretch_of-stretch.result
 there c =
     let a = c.args in
     holds (contents a.head.now a.groups.now a.pairs.now) a.asker _ a.out.now c.ask_fault.ensures c.in_ok-ask_fault.was
-    _ c.pair_rows-pairs.ensures _ c.from.ensures _ c.stretch_of-stretch.ensures
+    _ c.pair_rows-pairs.ensures _ c.from-key.ensures _ c.stretch_of-stretch.ensures
 
 pub offset_bounds-pairs-stretch : goal.offset_bounds-pairs-stretch
 offset_bounds-pairs-stretch c = let h = there (goal.at.offset_bounds-pairs-stretch c).After-stretch_of-stretch in omega (arith, h.ordered, h.inside)
@@ -32,6 +32,10 @@ slice_bounds-members-start c = let h = there (goal.at.slice_bounds-members-start
 
 pub slice_bounds-members-end : goal.slice_bounds-members-end
 slice_bounds-members-end c = let h = there (goal.at.slice_bounds-members-end c).After-stretch_of-stretch in omega (arith, h.ordered, h.inside)
+
+pub list_pairs-requires : goal.list_pairs-requires
+list_pairs-requires c =
+    record { fits = c.if-out-members.false; mine = (there (goal.at.list_pairs-requires c).After-stretch_of-stretch).mine }
 
 pub returns-then-out-members : goal.returns-then-out-members
 returns-then-out-members c =
