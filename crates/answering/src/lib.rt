@@ -25,6 +25,7 @@ use store::places::{find, place, stands};
 use turning::{Turn, turn_pairs};
 
 // The most that a result can be.
+// Stays: results are numbers, since any may come, and one that is none is refused as a bad order (answer-unique).
 const LAST_RESULT: u64 = 4;
 
 // The result by which a radio accepts.

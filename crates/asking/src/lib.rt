@@ -46,7 +46,7 @@ fn entry_row(radio: RadioKey, state: u64) -> [u64; ENTRY_WORDS]
     ensures { result ≡ entry_row (radio.0, state) }
 {
     let number = Itsi::from(radio);
-    [number.0 as u64, number.1 as u64, state]
+    [u64::from(number.0), u64::from(number.1), state]
 }
 
 // A group's pairs are listed at the front of the room: each radio with its state.
