@@ -33,7 +33,7 @@ impl<'a> Frame<'a> {
 pub fn read_frame(kind: Kind, frame: &[u8], bits: usize) -> Result<Record, Refused>
     ensures { result ≡ reading_of kind frame.now bits }
 {
-    if frame.len() < bits / 8 + (bits % 8 + 7) / 8 {
+    if frame.len() < bits.div_ceil(8) {
         return Err(refused(Refusal::EndsInside, 0));
     }
     let mut into = Filling::new();

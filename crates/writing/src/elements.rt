@@ -50,7 +50,7 @@ impl<'p, 'v, P: Pass> Walk<'p, 'v, P> {
                 self.pass.barred(missing, Some(Passed::NoGroup))
             }
             Shape::Nothing(o) => {
-                let nothing = last.is_none_or(|held| held <= o as usize);
+                let nothing = last.is_none_or(|held| held <= usize::from(o));
                 self.pass.barred(nothing, None)
             }
         }

@@ -51,8 +51,8 @@ impl<'p, 'v, P: Pass> Walk<'p, 'v, P> {
         self.form(place)
     }
 
-    // Stays: only the table's element says what a list is of, so what an item is is told by a match.
     // An item that is there.
+    // Stays: only the table's element says what a list is of, so what an item is is told by a match.
     fn item(&mut self, place: usize, items: Items) -> Option<()>
         requires { Ready self.old.at place (stride items) }
         ensures writes { Goes P.pass P.lent Any (item items [] place) place self.old self.new result }
@@ -64,8 +64,8 @@ impl<'p, 'v, P: Pass> Walk<'p, 'v, P> {
         }
     }
 
-    // Stays: `place` and `items` apart, since the place goes on from item to item, and what the list is of does not.
     // Item `i`, at `place`, of the list whose count is at `count`, if it is there.
+    // Stays: `place` and `items` apart, since the place goes on from item to item, and what the list is of does not.
     fn listed(&mut self, count: usize, place: usize, items: Items, i: u8) -> Option<()>
         requires { Ready self.old.at place (stride items) × (count < place) }
         ensures writes { Goes P.pass P.lent (Known self.old.values.now count) (item items (at_least count (least items i) ∷ []) place) place

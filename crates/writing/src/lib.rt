@@ -19,8 +19,8 @@ use refusal::Refusal;
 use table::lines::{ACTION_TYPE_BITS, SS_TYPE, SS_TYPE_BITS, action_type};
 use walk::{Judge, Lay};
 
-// Stays: the public functions are lent a record as its kind and its values, here and in `frame`; a struct of the two would be made and taken apart again.
 // A whole frame that is known to be writable: the head, then the elements.
+// Stays: the public functions are lent a record as its kind and its values, here and in `frame`; a struct of the two would be made and taken apart again.
 fn lay_frame(kind: Kind, values: &[u32; PLACES], out: &mut [u8])
     requires { T (spec.valid kind values.now) }
     ensures { Over out.old out.new 0 (spec.write kind values.now) }
@@ -31,8 +31,8 @@ fn lay_frame(kind: Kind, values: &[u32; PLACES], out: &mut [u8])
     let _ = walk_elements(&mut lay, kind, values);
 }
 
-// Stays: `bits` is how long the frame is, and not how long `out` is.
 // The spare bits of the last byte, as 0.
+// Stays: `bits` is how long the frame is, and not how long `out` is.
 fn lay_spare(out: &mut [u8], bits: usize)
     requires { bits ≤ most_bits }
     ensures { out.new ≡ put_at out.old bits (8 * bytes_for bits - bits) 0 }
@@ -40,8 +40,8 @@ fn lay_spare(out: &mut [u8], bits: usize)
     put_field(out, bits, (8 - bits % 8) % 8, 0);
 }
 
-// Stays: `bits` is how long the frame is, and not how long `out` is.
 // A record that is known to be writable, into bytes that have room for it.
+// Stays: `bits` is how long the frame is, and not how long `out` is.
 fn lay_whole(kind: Kind, values: &[u32; PLACES], out: &mut [u8], bits: usize)
     requires { (measured_of kind values.now ≡ Ok bits) × (bytes_for bits ≤ length out.old) }
     ensures { out.new ≡ bytes_of (spec.write kind values.now) ++ drop (bytes_for bits) out.old }
@@ -62,7 +62,7 @@ fn write_part(
     ensures { (result ≡ spec.written_of kind values.now (length out.old) start)
         × (out.new ≡ spec.output_of kind values.now out.old start) }
 {
-    if out.len() < start || out.len() - start < (bits + 7) / 8 {
+    if out.len() < start || out.len() - start < bits.div_ceil(8) {
         return Err(Refusal::NoSpace);
     }
     lay_whole(kind, values, &mut out[start..], bits);

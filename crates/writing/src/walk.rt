@@ -26,8 +26,8 @@ pub trait Pass {
 
     ghost lent: { Self → Lent };
 
-    // Stays: the bit, the value and the field apart, since one is the walk's, one the record's and one the table's.
     // The value of a field that is there, at the bit `at`: the next bit, or nothing if the value has no code.
+    // Stays: the bit, the value and the field apart, since one is the walk's, one the record's and one the table's.
     fn put(&mut self, at: usize, value: u32, field: Field) -> Option<usize>
         requires { Narrow field × (at ≤ most_bits) }
         ensures { Passes pass field value at (lent self.old) (lent self.new) result };

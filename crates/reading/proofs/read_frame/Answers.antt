@@ -9,9 +9,9 @@ use Rattle.reading.proofs.FillLaws.{left_by}
 use Rattle.reading.proofs.Going.{reading-lent, reading-enough}
 use Rattle.reading.proofs.read_frame.Goals as goal
 
-pub returns-then-frame-bits : goal.returns-then-frame-bits
+pub returns-then-frame-div_ceil : goal.returns-then-frame-div_ceil
 unfolding as_reading
-returns-then-frame-bits c =
+returns-then-frame-div_ceil c =
     ap Err c.refused.ensures ∙ reading-lent c.args.kind c.args.frame.now c.args.bits (omega arith)
 
 pub returns-in_err-read : goal.returns-in_err-read

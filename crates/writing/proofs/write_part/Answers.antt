@@ -1,14 +1,9 @@
 -- `writing::write_part` meets its contract: too little room, or the frame in the part from the start byte on.
 -- Assumes nothing.
 use Rattle.std.proofs.Common.{◌-◌, length, arith}
-use Rattle.writing.proofs.WriteLaws.{frame_told, no_room, written-part}
+use Rattle.writing.proofs.WriteLaws.{no_room, written-part}
 use Rattle.writing.proofs.write_part.Goals as goal
 use Rattle.writing.proofs.write_part.Goals.{then-out-start-via-then-out-start, then-out-start-via-else-out-start+then-out-start-2}
-
-pub overflow_add-bits : goal.overflow_add-bits
-overflow_add-bits c =
-    let few = (frame_told c.args.kind c.args.values.now c.args.bits c.requires).2 in
-    omega (arith, few)
 
 pub returns-then-out-start : goal.returns-then-out-start
 returns-then-out-start c =

@@ -28,7 +28,8 @@ pub returns-in_err-ss : goal.returns-in_err-ss
 returns-in_err-ss c =
     let f = c.args.self in
     let none : c.first_two-first.result.0 ≡ None = grind arith in
-    let same : c.from_residual.result ≡ Err (record { refusal = EndsInside; bit = 0 }) = left_by c.from_residual.result c.from_residual.ensures.1 ∙ sym c.in_err-ss.was ∙ c.ok_or.ensures.value ∙ ap₂ ok_or none c.refused.ensures in
+    let same : c.from_residual.result ≡ Err (record { refusal = EndsInside; bit = 0 }) =
+    left_by c.from_residual.result c.from_residual.ensures.1 ∙ sym c.in_err-ss.was ∙ c.ok_or.ensures.value ∙ ap₂ ok_or none c.refused.ensures in
     head-cut c.args.kind f.bytes.now f.bits f.lent (first-seen f.bytes.now f.bits f.lent c.first_two-first.result c.first_two-first.ensures None none)
     ∙ ap (onward (rows c.args.kind) (bits_in f) []) (sym same)
 
@@ -38,7 +39,8 @@ returns-in_err-action c =
     let some : c.first_two-first.result.0 ≡ Some c.in_ok-ss.ss = grind arith in
     let none : c.first_two-first.result.1 ≡ None = grind arith in
     let same : c.from_residual-in_err-action.result ≡ Err (record { refusal = EndsInside; bit = 6 }) =
-    left_by c.from_residual-in_err-action.result c.from_residual-in_err-action.ensures.1 ∙ sym c.in_err-action.was ∙ c.ok_or-2.ensures.value ∙ ap₂ ok_or none c.refused-2.ensures in
+    left_by c.from_residual-in_err-action.result c.from_residual-in_err-action.ensures.1 ∙ sym c.in_err-action.was
+    ∙ c.ok_or-2.ensures.value ∙ ap₂ ok_or none c.refused-2.ensures in
     let x = first-seen f.bytes.now f.bits f.lent c.first_two-first.result c.first_two-first.ensures (Some _) some in
     head-short c.args.kind f.bytes.now f.bits f.lent x.0
     (second-seen f.bytes.now f.bits f.lent c.first_two-first.result c.first_two-first.ensures None none)
