@@ -35,6 +35,8 @@ use Rattle.store.proofs.places.state_in.Kinds as state-in-kinds
 use Rattle.store.proofs.places.state_in.Reads as state-in
 use Rattle.store.proofs.places.find.Kinds as find-kinds
 use Rattle.store.proofs.places.find.Reads as find
+use Rattle.store.proofs.named.owners_of.Kinds as owners-of-kinds
+use Rattle.store.proofs.named.owners_of.Reads as owners-of
 use Rattle.store.proofs.named.owner_in.Kinds as owner-in-kinds
 use Rattle.store.proofs.named.owner_in.Reads as owner-in
 use Rattle.store.proofs.named.owned_by.Kinds as owned-by-kinds
@@ -103,3 +105,9 @@ module _ (κs : Lfts 1) (a : Dens κs pair-rows-kinds.ps) (r r' : (res_t pair-ro
     (s s' : AtExit (ended_of 1 pair-rows-kinds.ps pair-rows-kinds.r) κs) where
   pub pair-rows-unique : pair-rows.Post κs a r s → pair-rows.Post κs a r' s' → r.now ≡ r'.now
   pair-rows-unique p q = p ∙ sym q
+
+-- the owners' words of a row
+module _ (κs : Lfts 1) (a : Dens κs owners-of-kinds.ps) (r r' : (res_t owners-of-kinds.r κs).Denot)
+    (s s' : AtExit (ended_of 1 owners-of-kinds.ps owners-of-kinds.r) κs) where
+  pub owners-of-unique : owners-of.Post κs a r s → owners-of.Post κs a r' s' → r.now ≡ r'.now
+  owners-of-unique p q = p ∙ sym q

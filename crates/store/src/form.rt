@@ -137,7 +137,7 @@ fn pairs_ok(groups: &[[u64; GROUP_WORDS]], pairs: &[[u64; PAIR_WORDS]]) -> bool
     let mut group: usize = 0;
     let mut least: u64 = 0;
     let mut i: usize = 0;
-    // Stays: a turn goes on by a pair or by a group, so no iterator over one of them counts the turns.
+    // Stays: a turn goes on by a pair or by a group; a `for` over the pairs would hold a second loop over the groups that are passed.
     while i < pairs.len() {
         if group == groups.len() {
             return false;
@@ -161,10 +161,7 @@ fn pairs_ok(groups: &[[u64; GROUP_WORDS]], pairs: &[[u64; PAIR_WORDS]]) -> bool
 fn used<'a, R>(head: &[u64], word: usize, rows: &'a [R]) -> &'a [R]
     ensures { result.now ≡ take (get_or head.now word 0) rows.now }
 {
-    let mut count = 0;
-    if word < head.len() {
-        count = head[word] as usize;
-    }
+    let count = head.get(word).map_or(0, |count| *count as usize);
     &rows[..count.min(rows.len())]
 }
 

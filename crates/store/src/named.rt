@@ -12,12 +12,19 @@ use order::{GroupKey, Groups, RadioKey};
 use refusal::Refusal;
 use rows::{FIRST_OWNER, GROUP_WORDS, MAX_OWNERS, OWNER_COUNT};
 
+// The owners' words of a row: no more than there is room for, whatever its count says.
+pub fn owners_of(row: &[u64; GROUP_WORDS]) -> &[u64]
+    ensures { result.now ≡ (group_of row.now).1.owners }
+{
+    let count = (row[OWNER_COUNT] as usize).min(MAX_OWNERS);
+    &row[FIRST_OWNER..FIRST_OWNER + count]
+}
+
 // Whether a radio is an owner of a group.
 pub fn owner_in(row: [u64; GROUP_WORDS], asker: RadioKey) -> bool
     ensures { result ≡ mem asker.0 (group_of row).1.owners }
 {
-    let end = FIRST_OWNER + (row[OWNER_COUNT] as usize).min(MAX_OWNERS);
-    row[FIRST_OWNER..end].contains(&asker.0)
+    owners_of(&row).contains(&asker.0)
 }
 
 // Whether a group is the asker's: refused where there is none, or where it is another's.

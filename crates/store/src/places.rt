@@ -143,10 +143,7 @@ pub fn stretch_of(pairs: &[[u64; PAIR_WORDS]], group: GroupKey) -> Stretch
 pub fn state_in(row: [u64; PAIR_WORDS], group: GroupKey, radio: RadioKey) -> Option<u64>
     ensures { result ≡ found_of (mark_in (pair_of row) (group.0, radio.0)) }
 {
-    if row.is_of((group, radio)) {
-        return Some(row[PAIR_STATE]);
-    }
-    None
+    row.is_of((group, radio)).then_some(row[PAIR_STATE])
 }
 
 // A pair's state, or plainly nothing.
