@@ -71,6 +71,7 @@ impl fmt::Display for Refusal {
 impl Refusal {
     // Puts R and the number, in decimal, to the front of `out`, and answers how many bytes they take: no number has more than two digits.
     // On an `out` under three bytes it puts nothing, and answers 0.
+    // Stays: digits by hand beside Display, since put's contract names each byte, and no contract names what Display prints.
     pub fn put(self, out: &mut [u8]) -> usize
         ensures { PutsRefusal self out.old out.new result }
     {
