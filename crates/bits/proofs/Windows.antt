@@ -15,7 +15,8 @@ use Rattle.std.specs.Int.{div_ceil}
 use Rattle.bits.specs.Bits.{digits, value, bits_of, bytes_of, Bytes}
 use Rattle.bits.specs.Field.{put_at}
 use Rattle.bits.specs.Window.{value_at, joined_bits, bytes_in, laid}
-use Rattle.bits.proofs.Laws.{length_digits, value-lt, digits_value, digits_mod, value-digits, value-digits-mod, digits_append, value-append, length-bits_of, bits_of-append, bits_of-take, bits_of-drop, bytes_bits, put-inside}
+use Rattle.bits.proofs.Laws.{length_digits, value-lt, digits_value, digits_mod, value-digits, value-digits-mod, digits_append, value-append}
+use Rattle.bits.proofs.Laws.{length-bits_of, bits_of-append, bits_of-take, bits_of-drop, bytes_bits, put-inside}
 
 -- ---- reading
 
