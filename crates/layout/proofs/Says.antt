@@ -1,21 +1,25 @@
--- What the reader and the writer say for any input, by document 01's numbers: which is given, and exactly when.
+-- What the reader and the writer say for any input, and a kind's number, by document 01's numbers: which is given, and exactly when.
 -- Assumes nothing.
 use Prim.Native.Nat.{ℕ}
-use mathlib.Core.Path.{◌≡◌, refl}
-use mathlib.Core.Bool.{Bool, true, false, cond}
+use mathlib.Core.Path.{◌≡◌, refl, sym, ap}
+use mathlib.Core.Bool.{Bool, true, false, cond, ◌||◌}
 use mathlib.Core.List.{List, [], ◌∷◌}
+use borrow.Author.Tests.{eqb-true}
+use lib.Dec.{eqb}
 use lib.ListN.{length}
 use Rattle.std.specs.Prelude.{Result, Ok, Err, ⊤}
+use Rattle.std.specs.List.{list_any}
 use Rattle.refusal.specs.declared.Refusal.{Refusal}
 use Rattle.refusal.specs.Says.{Says, accepted, refused_with}
-use Rattle.refusal.specs.declared.Refusal.TheVariants.{Reserved, NoGroup, NoSpace}
+use Rattle.refusal.specs.declared.Refusal.TheVariants.{Reserved, NoGroup, NoSpace, BadLine}
 use Rattle.layout.specs.declared.Kind.{Kind}
+use Rattle.layout.specs.Kinds.{kinds, kind_number, kind_among, kind_named}
 use Rattle.layout.specs.Row.{all}
 use Rattle.layout.specs.Read.{Answer, frame, refused}
 use Rattle.layout.specs.Write.{good, good_but_group}
 use Rattle.layout.specs.Frame.{read_bytes, as_reading, reading_of, laid, write, judged_of, room, written_if, written_of}
 use Rattle.layout.specs.Length.{frame_length, measured_if, measured_of}
-use Rattle.layout.specs.Says.{reading_says, judged_says, written_says, answer_says}
+use Rattle.layout.specs.Says.{reading_says, judged_says, written_says, answer_says, kind_says}
 
 -- the reader: the record of the bits, or the refusal that reading them gives
 pub read-says : (kind : Kind) (bytes : List ℕ) (count : ℕ) → reading_says (reading_of kind bytes count) ≡ answer_says (read_bytes kind bytes count)
@@ -76,3 +80,24 @@ write-says kind s size start = go (all good (laid kind s)) (all good_but_group (
     go true b c = roomy (room n size start) refl
     go false true c = refl
     go false false c = refl
+
+-- the number of a kind
+abbrev numbered : ℕ → Kind → Bool
+numbered number kind = eqb number (kind_number kind)
+
+-- by kinds: the one of that number, if it is among them
+among-says : (list : List Kind) (number : ℕ)
+    → kind_says (kind_among list number) ≡ cond (list_any (numbered number) list) (accepted (number ∷ [])) (refused_with BadLine)
+among-says [] number = refl
+among-says (kind ∷ list) number = go (eqb number (kind_number kind)) refl (among-says list number)
+  where
+    go : (b : Bool) → eqb number (kind_number kind) ≡ b
+        → kind_says (kind_among list number) ≡ cond (list_any (numbered number) list) (accepted (number ∷ [])) (refused_with BadLine)
+        → kind_says (cond b (Ok kind) (kind_among list number)) ≡ cond (b || list_any (numbered number) list) (accepted (number ∷ [])) (refused_with BadLine)
+    go true e rest = ap (λ (n : ℕ). accepted (n ∷ [])) (sym (eqb-true number (kind_number kind) e))
+    go false e rest = rest
+
+-- the kind of a number: where it is the number of one, that number; else 9
+pub kind-named-says : (number : ℕ) → kind_says (kind_named number)
+    ≡ cond (list_any (numbered number) kinds) (accepted (number ∷ [])) (refused_with BadLine)
+kind-named-says = among-says kinds
