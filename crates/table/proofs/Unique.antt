@@ -54,7 +54,8 @@ pub places-of-unique : Unique places-of-kinds.ps places-of-kinds.r places_of.Pos
 places-of-unique κs a r r' s s' p q = p ∙ sym q
 
 -- the same elements
-module _ (κs : Lfts 1) (a : Dens κs table-of-kinds.ps) (r r' : (res_t table-of-kinds.r κs).Denot) (s s' : AtExit (ended_of 1 table-of-kinds.ps table-of-kinds.r) κs) where
+module _ (κs : Lfts 1) (a : Dens κs table-of-kinds.ps) (r r' : (res_t table-of-kinds.r κs).Denot)
+    (s s' : AtExit (ended_of 1 table-of-kinds.ps table-of-kinds.r) κs) where
   pub table-of-unique : table_of.Post κs a r s → table_of.Post κs a r' s' → r.now ≡ r'.now
   table-of-unique p q = p ∙ sym q
 

@@ -53,7 +53,7 @@ pub const M_BIT: Field = Field {
 };
 
 // A list's count.
-// Stays: a value for each of two kinds, and no step to run; its theorem, count-field-unique, is over both.
+// Stays: a value for each of two kinds, in two lines; a trait over them would be longer.
 pub fn count_field(items: Items) -> Field
     ensures { result ≡ count_field items }
 {

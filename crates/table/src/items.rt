@@ -6,7 +6,7 @@ use crate::place::{IDENTITY_PLACES, NAME_PLACES, NUMBERS_PLACES};
 use layout::{Items, Shape};
 
 // What a list's count holds, at least, where item `i` is there.
-// Stays: a value for each of two kinds, and no step to run; its theorem, least-for-unique, is over both.
+// Stays: a value for each of two kinds, in two lines; a trait over them would be longer.
 pub fn least_for(items: Items, i: u8) -> u32
     ensures { result ≡ least items i }
 {
@@ -18,7 +18,7 @@ pub fn least_for(items: Items, i: u8) -> u32
 }
 
 // The places that an item takes.
-// Stays: a value for each of two kinds, and no step to run; its theorem, stride-of-unique, is over both.
+// Stays: a value for each of two kinds, in two lines; a trait over them would be longer.
 pub fn stride_of(items: Items) -> usize
     ensures { result ≡ stride items }
 {
@@ -29,7 +29,7 @@ pub fn stride_of(items: Items) -> usize
 }
 
 // How many items a list has at most.
-// Stays: a value for each of two kinds, and no step to run; its theorem, times-of-unique, is over both.
+// Stays: a value for each of two kinds, in two lines; a trait over them would be longer.
 pub fn times_of(items: Items) -> u8
     ensures { result ≡ times items }
 {

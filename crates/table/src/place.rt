@@ -18,6 +18,8 @@ ghost use Rattle.layout.specs.Kinds.{kind_places};
 
 use layout::KindPlaces;
 
+// The codes of a choice and of an identity's form, as a record's places hold them.
+// Stays: numbers, since a record's places hold them, and a caller may put any number there (write-unique).
 pub const YES: u32 = 1;
 
 pub const NO: u32 = 2;
