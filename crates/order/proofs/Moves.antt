@@ -1,15 +1,14 @@
--- Laws of elements moved up, from the last: none moved, a turn, the length, and one stored where the first of them stood.
+-- Laws of elements moved up: what std's copy_within leaves, and one stored where the first of them stood.
 use mathlib.Core.Path.{◌≡◌, refl, sym, ap, ◌∙◌}
 use mathlib.Core.List.{List, [], ◌∷◌, ◌++◌, append_assoc}
 use Prim.Native.Nat.{ℕ, ◌+◌, ◌-◌, ◌≤◌, ◌<◌}
 use native.Mathlib.Numerals.{add-one}
 use native.Mathlib.Omega.{arith}
-use lib.ListN.{length, get_or, take, drop, set, take-append-drop, get_or-append}
-use lib.Seq.{take-suc, get_or-take, length-take-le, set_at, drop-append-le}
+use lib.ListN.{length, get_or, take, drop, set}
+use lib.Seq.{take-suc, length-take-le, set_at}
 use Rattle.std.specs.List.{copy_within}
 use Rattle.std.proofs.lemmas.List.{drop-take}
 use Rattle.order.specs.Walks.{left, moved}
-use Rattle.order.proofs.Walks.{left-cons}
 
 module _ {A : Type 0} where
   -- stored at the last place of a front
@@ -17,16 +16,6 @@ module _ {A : Type 0} where
   set_last l r k x h =
       let e : take (k + 1) l ≡ take k l ++ (get_or l k x ∷ []) = rw add-one (take-suc l k x h) in
       rw (e, append_assoc) (set_at (take k l) (get_or l k x) r x k (length-take-le k l (omega arith)))
-
-  pub moved-turn : (by n i : ℕ) (l : List A) (d : A) → i < n → n + by ≤ length l
-      → set (moved by (i + 1) n l) (i + by) (get_or (moved by (i + 1) n l) i d) ≡ moved by i n l
-  moved-turn by n i l d p q =
-      let m : i + 1 + by ≡ i + by + 1 = omega arith in
-      let r = left (i + 1) n l ++ drop (n + by) l in
-      let h : i < length (take (i + by + 1) l) = rw (length-take-le (i + by + 1) l (omega arith)) (omega arith) in
-      let e : get_or (take (i + by + 1) l ++ r) i d ≡ get_or l i d =
-      get_or-append (take (i + by + 1) l) r d i h ∙ get_or-take (i + by + 1) l i d (omega arith) in
-      rw (m, e, left-cons l n i d p (omega arith)) (set_last l r (i + by) (get_or l i d) (omega arith))
 
   -- the elements from i on have made room: one is stored before them
   pub moved-set : (by n i m : ℕ) (l : List A) (x : A) → i + by ≡ m + 1 → m < length l
@@ -40,11 +29,3 @@ module _ {A : Type 0} where
       let f : i + by + (n - i) ≡ n + by = omega arith in
       let g : take (n - i) (drop i l) ≡ left i n l = sym (drop-take i (n - i) l) ∙ ap (λ (m : ℕ). left i m l) e in
       append_assoc (take (i + by) l) (take (n - i) (drop i l)) (drop (i + by + (n - i)) l) ∙ rw (g, f) refl
-
-  -- moved by no place
-  pub moved-zero : (n i : ℕ) (l : List A) → i ≤ n → n ≤ length l → moved 0 i n l ≡ l
-  moved-zero n i l p q =
-      let a : i + 0 ≡ i = omega arith in
-      let b : n + 0 ≡ n = omega arith in
-      let e = sym (drop-append-le i (take n l) (drop n l) (rw (length-take-le n l q) p)) in
-      rw (a, b, e, take-append-drop n l) (take-append-drop i l)

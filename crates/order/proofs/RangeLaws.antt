@@ -8,7 +8,7 @@ use native.Mathlib.Omega.{arith}
 use lib.Dec.{eqb, ltb, leb}
 use lib.ListN.{length, get_or, length-map, length-take}
 use borrow.Author.Tests.{eqb-true, leb-true, leb-false, lt-ltb, le-ltb}
-use Rattle.rules.specs.Number.{count, used, identified, identity_key}
+use Rattle.rules.specs.Number.{count, used, identity_key}
 use Rattle.rules.specs.Named.{consecutive, numbers, numbers_in, too_many, span}
 use Rattle.rules.specs.Number as number
 use Rattle.rules.proofs.Tests.{split}

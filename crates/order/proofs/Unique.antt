@@ -11,6 +11,14 @@ use denote.RattleType.{RattleType}
 use mir.Syntax.{Dict, w64}
 use mir.Val.{Fits}
 use Rattle.order.specs.declared.Key as Key
+use Rattle.order.specs.contracts.GroupKey as group
+use Rattle.order.specs.contracts.GroupKeyKey.TheImpl as group-impl
+use Rattle.order.specs.contracts.GroupKeyKey.TheImpl.Laws as group-impl-laws
+use Rattle.order.proofs.GroupKey.TheLaws as group-laws
+use Rattle.order.specs.contracts.RadioKey as radio
+use Rattle.order.specs.contracts.RadioKeyKey.TheImpl as radio-impl
+use Rattle.order.specs.contracts.RadioKeyKey.TheImpl.Laws as radio-impl-laws
+use Rattle.order.proofs.RadioKey.TheLaws as radio-laws
 use Rattle.std.specs.declared.clone.Clone as Clone
 use Rattle.order.proofs.lists.member.Kinds as member-kinds
 use Rattle.order.proofs.lists.member.Reads as member
@@ -161,7 +169,7 @@ module _ (K : RattleType) (laws : Laws K) (copy : IsCopy K) (key : Key.Ghosts K.
   module _ (n : ℕ) (fits : Fits w64 n) where
     pub len-unique :
         Unique (len-kinds.ps K n laws fits copy) (len-kinds.r K n laws fits copy) (len.Post K n laws fits copy key key-dict clone clone-dict)
-    len-unique κs a r r' s s' p q = p ∙ sym q
+    len-unique κs a r r' s s' p q = p.0 ∙ sym q.0
 
     -- what the lent words are
     module _ (κs : Lfts 3) (a : Dens κs (as-slice-kinds.ps K n laws fits copy)) (r r' : (res_t (as-slice-kinds.r K n laws fits copy) κs).Denot)
@@ -178,6 +186,22 @@ module _ (K : RattleType) (laws : Laws K) (copy : IsCopy K) (key : Key.Ghosts K.
     pub rising-unique :
         Unique (rising-kinds.ps K n laws fits copy) (rising-kinds.r K n laws fits copy) (rising.Post K n laws fits copy key key-dict clone clone-dict)
     rising-unique κs a r r' s s' p q = p ∙ sym q
+
+-- keys of groups and of radios keep that law, in however many places
+module _ (n : ℕ) (fits : Fits w64 n) (clone-dict : Dict) where
+  module _ (clone : Clone.Ghosts group.the_row.Denot) where
+    pub group-at-unique : Unique (at-kinds.ps group.the_row n group-laws.the_row_laws fits group-laws.the_row_copy)
+        (at-kinds.r group.the_row n group-laws.the_row_laws fits group-laws.the_row_copy)
+        (at.Post group.the_row n group-laws.the_row_laws fits group-laws.the_row_copy group-impl.ghosts group-impl.dict clone clone-dict)
+    group-at-unique =
+        at-unique group.the_row group-laws.the_row_laws group-laws.the_row_copy group-impl.ghosts group-impl.dict clone clone-dict n fits group-impl-laws.alike-law
+
+  module _ (clone : Clone.Ghosts radio.the_row.Denot) where
+    pub radio-at-unique : Unique (at-kinds.ps radio.the_row n radio-laws.the_row_laws fits radio-laws.the_row_copy)
+        (at-kinds.r radio.the_row n radio-laws.the_row_laws fits radio-laws.the_row_copy)
+        (at.Post radio.the_row n radio-laws.the_row_laws fits radio-laws.the_row_copy radio-impl.ghosts radio-impl.dict clone clone-dict)
+    radio-at-unique =
+        at-unique radio.the_row radio-laws.the_row_laws radio-laws.the_row_copy radio-impl.ghosts radio-impl.dict clone clone-dict n fits radio-impl-laws.alike-law
 
 pub lists-of-unique : Unique lists-of-kinds.ps lists-of-kinds.r Lists-of.Post
 lists-of-unique κs a r r' s s' p q = p ∙ sym q

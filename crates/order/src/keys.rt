@@ -1,5 +1,5 @@
 // The keys of an order's numbers, made here and nowhere else.
-ghost use Rattle.std.specs.Prelude.{◌≤◌, eqb, length, get_or, not, [], ◌∷◌, ◌≡◌};
+ghost use Rattle.std.specs.Prelude.{◌≤◌, eqb, length, get_or, not, ◌∷◌, ◌≡◌};
 ghost use Rattle.rules.specs.Lists.{keep, in_order, rising};
 ghost use Rattle.rules.specs.Number.{key, plain, ssi_of, extension_of, identified, identity_key};
 ghost use Rattle.rules.specs.Named.{numbers_in, max_numbers, max_listed_owners};
@@ -16,7 +16,7 @@ use rows::{MAX_LISTED_OWNERS, MAX_NUMBERS, MAX_OWNERS};
 use std::marker::PhantomData;
 
 // Keys of groups or of radios: how many, and their words; the words past them are 0.
-// Stays: a count and an array, and no `Vec`, since there is no heap.
+// Stays: the words past the count are 0 by `keys_as`, which owners-in-unique and the like determine, and the value is Copy: no library's vector is both.
 #[derive(Clone, Copy)]
 pub struct Keys<K, const N: usize> {
     pub count: usize,
@@ -28,10 +28,11 @@ pub struct Keys<K, const N: usize> {
 const EXTENSION_KEYS: u64 = 0x100_0000;
 
 // A number as the ledger knows it: its extension, then its SSI.
+#[tactic(auto, unfolding(rules::specs::Number::key))]
 fn key(ssi: u32, extension: u32) -> u64
     ensures { result ≡ key (plain extension ssi) }
 {
-    extension as u64 * EXTENSION_KEYS + ssi as u64
+    u64::from(extension) * EXTENSION_KEYS + u64::from(ssi)
 }
 
 // The key of a group's number.
@@ -132,7 +133,8 @@ pub fn keys_named<K: Key>(asker: Itsi, list: Option<Numbers>) -> Keys<K, MAX_NUM
 impl<K: Key, const N: usize> Keys<K, N> {
     // How many there are.
     pub fn len(&self) -> usize
-        ensures { result ≡ length (keys_held self.now) }
+        ensures value { result ≡ length (keys_held self.now) }
+        ensures few { result ≤ N }
     {
         self.count.min(N)
     }

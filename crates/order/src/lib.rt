@@ -84,7 +84,7 @@ impl Key for RadioKey {
 }
 
 // An identity: its form (0 SNA, 1 SSI, 2 SSI and extension), and its values.
-// Stays: the form is a number, since callers hand over any, and a reserved one is refused as a bad order.
+// Stays: the form is a number, since callers hand over any, and a reserved one is refused as a bad order (bad-identity-unique).
 #[derive(Clone, Copy)]
 pub struct Identity {
     pub form: u32,
@@ -94,7 +94,7 @@ pub struct Identity {
 }
 
 // A list of numbers: its number type (0 one, 1 a range, 2 to 10 that many) and places for ten identities.
-// Stays: the number type is a number for the same reason.
+// Stays: the number type is a number for the same reason (bad-list-unique).
 #[derive(Clone, Copy)]
 pub struct Numbers {
     pub code: u32,

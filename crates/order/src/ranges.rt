@@ -1,5 +1,5 @@
 // What a range is refused for: its ends, and how many numbers it has.
-ghost use Rattle.std.specs.Prelude.{◌≤◌, ltb, [], ◌∷◌, ◌≡◌};
+ghost use Rattle.std.specs.Prelude.{ltb, [], ◌∷◌, ◌≡◌};
 ghost use Rattle.std.proofs.Math.Option.{some};
 ghost use Rattle.rules.specs.Number.{identified};
 ghost use Rattle.rules.specs.Named.{span, crossed, bad_range, too_many, max_numbers, max_listed_owners};

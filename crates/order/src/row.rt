@@ -1,5 +1,5 @@
 // The order's row: the parameters of a DEFINE record, as a group's row has them; its key and its owners' words are 0.
-ghost use Rattle.std.specs.Prelude.{◌+◌, ◌-◌, ◌≤◌, ◌<◌, cond, length, get_or, Some, None, ◌≡◌};
+ghost use Rattle.std.specs.Prelude.{◌+◌, ◌-◌, ◌<◌, cond, length, get_or, Some, None, ◌≡◌};
 ghost use Rattle.layout.specs.Frame.{places};
 ghost use Rattle.rules.specs.Recorded.{value_at, optional, optional_number, optional_choice, optional_name};
 ghost use Rattle.rows.specs.Layout.{max_letters};

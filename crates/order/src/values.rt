@@ -7,6 +7,7 @@ use layout::PLACES;
 use table::place::define::O_BIT;
 
 // A choice's code: its place holds it one up.
+// Stays: a record's places hold choices so, as its table lays down, and first-state-unique and order-row-unique are over such places.
 pub fn one_down(value: u32) -> u32
     ensures { result ≡ value - 1 }
 {
