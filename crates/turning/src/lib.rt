@@ -1,7 +1,7 @@
 #![tactic(auto)]
 
 // Turning the pairs: each is changed in its place or taken out, and those that stay close up.
-ghost use Rattle.std.specs.Prelude.{◌≤◌, length, option_map, ◌≡◌};
+ghost use Rattle.std.specs.Prelude.{option_map, ◌≡◌};
 ghost use Rattle.rules.specs.Entries.{alter};
 ghost use Rattle.rules.specs.Mark.{expired, ticked};
 ghost use Rattle.order.specs.Keys.{keys_held};
@@ -79,7 +79,8 @@ fn turned(turn: Turn, named: bool, row: [u64; PAIR_WORDS]) -> Option<[u64; PAIR_
 }
 
 // Each pair is changed in its place or taken out; those that stay close up in their order, and their count is returned.
-// Stays: a slice and a count, as what stands behind the pairs in use is lent too, and stays as it was.
+// Stays: a slice and a count, as what stands behind the pairs in use is lent too, and stays as it was. Turn beside the lists that a tick
+// does not look at: a case that held them would be made anew for each of two cases, and turn_of, under turn-pairs-unique, takes them apart.
 pub fn turn_pairs(
     pairs: &mut [[u64; PAIR_WORDS]],
     count: usize,
@@ -91,6 +92,7 @@ pub fn turn_pairs(
         pairs.old pairs.new result }
 {
     let mut kept: usize = 0;
+    // Stays: two places of one slice, which no iterator lends both.
     for i in 0..count.min(pairs.len()) {
         let row = pairs[i];
         if let Some(next) = turned(turn, names(groups, radios, row), row) {
