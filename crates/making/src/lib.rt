@@ -3,7 +3,7 @@
 // A group's row as an order leaves it, and its owners.
 pub mod owners;
 
-ghost use Rattle.std.specs.Prelude.{get_or, ◌≡◌};
+ghost use Rattle.std.specs.Prelude.{◌≡◌};
 ghost use Rattle.order.specs.Keys.{keys_held};
 ghost use Rattle.making.specs.Row.{keeps_word, made_word, made_row};
 

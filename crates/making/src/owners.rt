@@ -1,8 +1,7 @@
 // The owners of a group's row, and how many there are with those who come.
-ghost use Rattle.std.specs.Prelude.{eqb, ltb, map, min, length, get_or, ◌≡◌};
+ghost use Rattle.std.specs.Prelude.{eqb, ltb, map, ◌≡◌};
 ghost use Rattle.rules.specs.Lists.{any};
 ghost use Rattle.rules.specs.Owners.{max_owners};
-ghost use Rattle.rows.specs.Layout.{owner_count};
 ghost use Rattle.order.specs.Keys.{keys_as, keys_held};
 ghost use Rattle.store.specs.Places.{looked_up};
 ghost use Rattle.store.specs.Storage.{group_of};
@@ -10,25 +9,19 @@ ghost use Rattle.making.specs.Owners.{new_owners, owner_total};
 
 use order::keys::Keys;
 use order::{GroupKey, Groups, Owners, RadioKey};
-use rows::{FIRST_OWNER, GROUP_WORDS, MAX_OWNERS, OWNER_COUNT};
+use rows::{GROUP_WORDS, MAX_OWNERS};
 use std::marker::PhantomData;
-use store::named::owner_in;
+use store::named::{owner_in, owners_of};
 use store::places::place;
-
-// How many owners a row has: no more than there are words for them, whatever its count says.
-fn held_count(row: [u64; GROUP_WORDS]) -> usize
-    ensures { (result ≡ min (get_or row owner_count 0) max_owners) × (result ≡ length (group_of row).1.owners) }
-{
-    (row[OWNER_COUNT] as usize).min(MAX_OWNERS)
-}
 
 // The owners of a row.
 pub fn held_owners(row: [u64; GROUP_WORDS]) -> Owners
     ensures { result ≡ keys_as (group_of row).1.owners }
 {
-    let count = held_count(row);
+    let owners = owners_of(&row);
+    let count = owners.len();
     let mut key = [0u64; MAX_OWNERS];
-    key[..count].copy_from_slice(&row[FIRST_OWNER..FIRST_OWNER + count]);
+    key[..count].copy_from_slice(owners);
     Keys {
         count,
         key,
@@ -52,7 +45,7 @@ fn crowds(groups: &[[u64; GROUP_WORDS]], group: GroupKey, come: &Owners) -> bool
         return MAX_OWNERS < come.len();
     };
     let row = groups[i];
-    let held = held_count(row);
+    let held = owners_of(&row).len();
     MAX_OWNERS - held < new_owners(row, come)
 }
 

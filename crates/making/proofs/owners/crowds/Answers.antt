@@ -10,6 +10,9 @@ use Rattle.rules.proofs.Tests.{split}
 use Rattle.rules.specs.Lists.{keep}
 use Rattle.store.specs.Storage.{group_of}
 use Rattle.store.proofs.PlaceLaws.{at_place, no_place}
+use Rattle.making.proofs.Room.{owners-within}
+use borrow.Author.Rules.{rules}
+use lib.ListN.{length}
 use Rattle.making.proofs.owners.crowds.Goals as goal
 
 all-kept : (l : List ℕ) → keep (λ a. true) l ≡ l
@@ -25,7 +28,7 @@ less-rest n held new h = split (ltb n (held + new))
 pub returns-in_default : goal.returns-in_default
 returns-in_default c =
     let m = no_place ltb eqb group_of c.args.groups.now c.args.group.0 [] _ _ c.in_default.is c.place.ensures in
-    rw (m, all-kept, ← c.len.ensures) (less-rest 16 0 c.len.result (omega arith))
+    rw (m, all-kept, ← c.len.ensures.value) (less-rest 16 0 c.len.result (omega arith))
 
 pub offset_bounds-groups-i : goal.offset_bounds-groups-i
 offset_bounds-groups-i c =
@@ -37,8 +40,14 @@ bounds-groups-i c =
     let r = at_place ltb eqb group_of c.args.groups.now c.args.group.0 [] c.in-Ok.i _ c.in-Ok.is c.place.ensures in
     omega (arith, r.inside)
 
+pub overflow_sub-result : goal.overflow_sub-result
+overflow_sub-result c =
+    let r = at_place ltb eqb group_of c.args.groups.now c.args.group.0 [] c.in-Ok.i _ c.in-Ok.is c.place.ensures in
+    owners-within _ _ c.owners_of-held.ensures (search (rules, c.told-groups))
+
 pub returns : goal.returns
 returns c =
     let r = at_place ltb eqb group_of c.args.groups.now c.args.group.0 [] c.in-Ok.i _ c.in-Ok.is c.place.ensures in
-    let held = c.held_count-held in
-    rw (r.found, ← held.ensures.1, ← c.new_owners.ensures) (less-rest 16 held.result c.new_owners.result (omega (arith, held.ensures.0)))
+    let held = c.owners_of-held in
+    rw (r.found, ← c.new_owners.ensures, ← held.ensures)
+    (less-rest 16 (length held.result.now) c.new_owners.result (owners-within _ _ held.ensures (search (rules, c.told-groups))))

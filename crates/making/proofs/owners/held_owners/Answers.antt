@@ -1,15 +1,13 @@
--- `making::owners::held_owners` meets its contract: as many owners are copied as there are words for them.
-use mathlib.Core.Path.{◌∙◌}
-use mathlib.Core.List.{◌++◌}
-use lib.ListN.{drop, replicate}
-use Rattle.rules.specs.Written.{max_owners}
-use Rattle.store.proofs.Groups.{owners-few}
-use borrow.Author.Rules.{rules}
+-- `making::owners::held_owners` meets its contract: there is room for the owners of a row.
+use Rattle.std.proofs.Common.{sym, length-take-le, rules}
+use Rattle.making.proofs.Room.{owners-within}
 use Rattle.making.proofs.owners.held_owners.Goals as goal
 
-pub returns : goal.returns
-returns c =
-    let n = c.held_count-count in
-    let key = c.copy_from_slice.ensures.after in
-    let k = key ∙ owners-few c.args.row (search rules) n.result n.ensures.0 in
-    λ i. record { count = n.ensures.1 i; key = k i ++ drop (n.ensures.1 i) (replicate max_owners 0); of = record {} }
+pub slice_bounds-key-end : goal.slice_bounds-key-end
+slice_bounds-key-end c = owners-within c.args.row _ c.owners_of-owners.ensures (search rules)
+
+pub slice_bounds-copy_from_slice-end : goal.slice_bounds-copy_from_slice-end
+slice_bounds-copy_from_slice-end c = sym (length-take-le _ _ (owners-within c.args.row _ c.owners_of-owners.ensures (search rules)))
+
+pub copy_from_slice-requires : goal.copy_from_slice-requires
+copy_from_slice-requires c = length-take-le _ _ (owners-within c.args.row _ c.owners_of-owners.ensures (search rules))
