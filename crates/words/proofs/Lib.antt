@@ -4,5 +4,6 @@ pub mod Values
 pub mod Short
 pub mod Lists
 pub mod Laws
+pub mod Says
 pub mod Samples
 pub mod Unique

@@ -2,3 +2,4 @@
 pub mod Character
 pub mod Words
 pub mod Series
+pub mod Says

@@ -1,7 +1,7 @@
 #![tactic(auto)]
 
 // The words of a desk's line. A reader takes what stands from a place of the line on, and the place behind it; nothing where something else stands.
-ghost use Rattle.std.specs.Prelude.{◌≤◌, ◌<◌, ltb, cond, Some, None, ◌≡◌};
+ghost use Rattle.std.specs.Prelude.{◌≤◌, ◌<◌, Some, None, ◌≡◌};
 ghost use Rattle.house.specs.Hex.{digit_value};
 ghost use Rattle.words.specs.Words.{digit_at, stands_at, mark_at, digits_at, word_at, number_at, group_at, room_at, either_at, choice_at, kind_at};
 ghost use Rattle.words.specs.Series.{identity_with, named_at, identity_at, item_at, series_at, series_or_none_at};
