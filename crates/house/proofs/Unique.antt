@@ -4,6 +4,8 @@ use contract.Lifetimes.{Lfts}
 use borrow.Fn.Kinds.{Dens, res_t, ended_of}
 use denote.Triple.Clauses.{AtExit}
 use Rattle.refusal.proofs.Unique.{Unique}
+use Rattle.house.proofs.digit_of.Kinds as digit-of-kinds
+use Rattle.house.proofs.digit_of.Reads as digit-of
 use Rattle.house.proofs.heading.Kinds as heading-kinds
 use Rattle.house.proofs.heading.Reads as heading
 use Rattle.house.proofs.split.Kinds as split-kinds
@@ -12,6 +14,9 @@ use Rattle.house.proofs.refuse_at.Kinds as refuse-at-kinds
 use Rattle.house.proofs.refuse_at.Reads as refuse-at
 use Rattle.house.proofs.echo_line.Kinds as echo-line-kinds
 use Rattle.house.proofs.echo_line.Reads as echo-line
+
+pub digit-of-unique : Unique digit-of-kinds.ps digit-of-kinds.r digit-of.Post
+digit-of-unique κs a r r' s s' p q = p ∙ sym q
 
 pub heading-unique : Unique heading-kinds.ps heading-kinds.r heading.Post
 heading-unique κs a r r' s s' p q = p ∙ sym q

@@ -24,6 +24,7 @@ const FRAME_BYTES: usize = 213;
 const REPLY: usize = 433;
 
 // The value of every character, so that a digit costs one look; 16 where it is no digit.
+// Stays: 16 for what is no digit, as digit_value says, on which echo-line-unique rests.
 static VALUES: [u8; 256] = [
     16, 16, 16, 16, 16, 16, 16, 16, 16, 16, 16, 16, 16, 16, 16, 16, 16, 16, 16, 16, 16, 16, 16, 16,
     16, 16, 16, 16, 16, 16, 16, 16, 16, 16, 16, 16, 16, 16, 16, 16, 16, 16, 16, 16, 16, 16, 16, 16,
@@ -49,7 +50,7 @@ fn value_of(character: u8) -> u8
 }
 
 // The digit of a value below 16.
-fn digit_of(value: u8) -> u8
+pub fn digit_of(value: u8) -> u8
     requires { value < 16 }
     ensures { result ≡ digit_of value }
 {
@@ -141,6 +142,7 @@ pub fn split(line: &[u8]) -> &[u8]
 }
 
 // Puts the two digits of a byte at `at`.
+// Stays: digits by hand, since the contract names each byte, and the kit's hex gives lower-case ones.
 fn put_byte(byte: u8, out: &mut [u8], at: usize)
     requires { at + 1 < length out.old }
     ensures { out.new ≡ sets out.old at (digits_of (byte ∷ [])) }

@@ -11,6 +11,7 @@ use order::{GroupKey, Gtsi, Itsi, RadioKey};
 use rows::ORDER_WORDS;
 
 // The kinds of an outgoing order.
+// Stays: kinds are words: order_row and push_orders promise the row of any (order-row-unique).
 pub const ASSIGN: u64 = 0;
 
 pub const DEASSIGN: u64 = 1;
@@ -22,7 +23,13 @@ pub fn order_row(kind: u64, radio: RadioKey, group: GroupKey) -> [u64; ORDER_WOR
 {
     let to = Itsi::from(radio);
     let of = Gtsi::from(group);
-    [kind, to.0 as u64, to.1 as u64, of.0 as u64, of.1 as u64]
+    [
+        kind,
+        u64::from(to.0),
+        u64::from(to.1),
+        u64::from(of.0),
+        u64::from(of.1),
+    ]
 }
 
 // An order of this kind to each radio, from place `at` on.
