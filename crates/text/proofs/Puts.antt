@@ -8,7 +8,8 @@ use lib.ListN.{length, set, length-append}
 use lib.Seq.{sets, sets-eq, set_comm, drop-drop}
 use borrow.Rule.Slice.PartMut.{put_mid}
 use borrow.Author.Tests.{le-leb}
-use Rattle.text.specs.Digits.{digit, digits_text}
+use Rattle.house.specs.Hex.{digit_of}
+use Rattle.text.specs.Digits.{digits_text}
 use Rattle.text.specs.Put.{Put, Replied, longest, within}
 
 -- a text of two parts is stored part by part
@@ -40,15 +41,15 @@ pub length_digits : (value width : ℕ) → length (digits_text value width) ≡
 length_digits value zero = refl
 length_digits value (suc width) =
     let rest = length_digits (value / 16) width in
-    omega (arith, length-append (digits_text (value / 16) width) (digit (value % 16) ∷ []))
+    omega (arith, length-append (digits_text (value / 16) width) (digit_of (value % 16) ∷ []))
 
 -- the last of the digits is stored: those that are left make the same text
-pub digit-turn : (out : List ℕ) (at i rest x : ℕ) → x ≡ digit (rest % 16)
+pub digit-turn : (out : List ℕ) (at i rest x : ℕ) → x ≡ digit_of (rest % 16)
     → sets (set out (at + i) x) at (digits_text (rest / 16) i) ≡ sets out at (digits_text rest (suc i))
 digit-turn out at i rest x e =
     let size = length_digits (rest / 16) i in
     set-behind (digits_text (rest / 16) i) out at (at + i) x (omega arith)
-    ∙ sym (sets-append (digits_text (rest / 16) i) out at (digit (rest % 16) ∷ []) ∙ rw (size, ← e))
+    ∙ sym (sets-append (digits_text (rest / 16) i) out at (digit_of (rest % 16) ∷ []) ∙ rw (size, ← e))
 
 -- a part of the buffer is the text
 pub text-put : (out text part : List ℕ) (at : ℕ) → at + length text ≤ length out → part ≡ text

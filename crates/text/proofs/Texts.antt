@@ -8,14 +8,14 @@ use native.Mathlib.Omega.{arith}
 use lib.Dec.{eqb}
 use lib.ListN.{length, take, length-take}
 use lib.Seq.{take-nil, take-take}
-use Rattle.text.specs.Digits.{digit}
+use Rattle.house.specs.Hex.{digit_of}
 use Rattle.text.specs.Text.{joined, held_letter, letter_text, name_text}
 
-pub value-held : (held : ℕ) → 0 < held → held_letter held ≡ digit ((held - 1) % 16)
+pub value-held : (held : ℕ) → 0 < held → held_letter held ≡ digit_of ((held - 1) % 16)
 value-held zero h = absurd (omega arith)
 value-held (suc held) h =
     let less : held ≡ suc held - 1 = omega arith in
-    ap (λ n. digit (n % 16)) less
+    ap (λ n. digit_of (n % 16)) less
 
 pub some-name : (name : List ℕ) → eqb (length name) 0 ≡ false → name_text name ≡ joined letter_text name
 some-name [] h = absurd (cc)

@@ -2,6 +2,7 @@
 use Rattle.std.specs.Prelude.{cond, List, [], ◌∷◌, ◌++◌, ℕ, zero, suc, ◌+◌, ◌%◌, eqb, get_or, take, Result, Ok, Err, ⊤}
 use Prim.Native.Char.{code}
 use Prim.Native.String.{String}
+use Rattle.house.specs.Hex.{digit_of}
 use Rattle.order.specs.declared.Itsi.{Itsi}
 use Rattle.refusal.specs.Number.{number_of}
 use Rattle.refusal.specs.Reply.{decimal}
@@ -9,7 +10,7 @@ use Rattle.refusal.specs.declared.Refusal.{Refusal}
 use Rattle.replies.specs.declared.Shown.{Shown}
 use Rattle.rows.specs.Layout.{order_kind, order_radio, order_group, entry_radio, entry_state}
 use Rattle.rules.specs.Outgoing.{assign}
-use Rattle.text.specs.Digits.{quoted, digit, digits_text}
+use Rattle.text.specs.Digits.{quoted, digits_text}
 
 -- the texts of a list's items, one behind the other
 abbrev pub joined : {A : Type 0} → (A → List ℕ) → List A → List ℕ
@@ -69,7 +70,7 @@ member_text row =
 -- a parameter's code in one digit; it is held one up, and "-" where it is absent
 abbrev pub held_letter : ℕ → ℕ
 held_letter zero = code "-"
-held_letter (suc held) = digit (held % 16)
+held_letter (suc held) = digit_of (held % 16)
 
 -- a parameter behind its label
 abbrev pub value_text : String → ℕ → List ℕ

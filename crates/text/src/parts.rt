@@ -5,7 +5,8 @@ ghost use Rattle.text.specs.Text.{held_letter, early_text, late_text, owners_tex
 ghost use Rattle.text.specs.Put.{Put, longest};
 
 use crate::listed::put_each;
-use crate::pieces::{digit_of, put_byte, put_digits, put_parts, put_text};
+use crate::pieces::{put_byte, put_digits, put_parts, put_text};
+use house::digit_of;
 use order::Itsi;
 use replies::Shown;
 use rows::{MAX_LETTERS, MAX_OWNERS};
@@ -17,7 +18,7 @@ fn held_letter(held: u64) -> u8
     if held == 0 {
         return b'-';
     }
-    digit_of((held - 1) % 16)
+    digit_of(((held - 1) % 16) as u8)
 }
 
 // The parameters in front of the name.

@@ -1,21 +1,10 @@
 // Pieces of text. Each function puts one into `out`, from a place on, and answers the place behind it.
 ghost use Rattle.std.specs.Prelude.{◌≡◌, [], ◌∷◌, ◌+◌, ◌≤◌, length};
-ghost use Rattle.text.specs.Digits.{digit, digits_text};
+ghost use Rattle.text.specs.Digits.{digits_text};
 ghost use Rattle.text.specs.Text.{number_text};
 ghost use Rattle.text.specs.Put.{Put};
 
-// The digit of a value below 16.
-// Stays: house has the like for bytes, by a table, but text does not stand on house.
-pub fn digit_of(value: u64) -> u8
-    requires { value ≤ 15 }
-    ensures { result ≡ digit value }
-{
-    if value < 10 {
-        b'0' + value as u8
-    } else {
-        b'A' - 10 + value as u8
-    }
-}
+use house::digit_of;
 
 // One character.
 pub fn put_byte(byte: u8, out: &mut [u8], at: usize) -> usize
@@ -33,7 +22,7 @@ pub fn put_digits(value: u64, width: usize, out: &mut [u8], at: usize) -> usize
 {
     let mut rest = value;
     for i in (0..width).rev() {
-        out[at + i] = digit_of(rest % 16);
+        out[at + i] = digit_of((rest % 16) as u8);
         rest /= 16;
     }
     at + width
