@@ -51,11 +51,7 @@ fn stands(line: &[u8], at: usize, character: u8) -> bool
 pub fn mark(line: &[u8], at: usize, character: u8) -> Option<usize>
     ensures { result ≡ mark_at line.now at character }
 {
-    if stands(line, at, character) {
-        Some(at + 1)
-    } else {
-        None
-    }
+    stands(line, at, character).then(|| at + 1)
 }
 
 // So many digits.

@@ -4,7 +4,7 @@ use native.Mathlib.Omega.{arith}
 use Rattle.words.proofs.Words.{stands-within}
 use Rattle.words.proofs.mark.Goals as goal
 
-pub overflow_add-result : goal.overflow_add-result
-overflow_add-result c =
+pub then-requires : goal.then-requires
+then-requires c there κs captured called fits =
     let a = c.args in
-    omega (arith, stands-within a.line.now a.at a.character (sym c.stands.ensures ∙ c.if-stands.true))
+    omega (arith, stands-within a.line.now a.at a.character (sym c.stands.ensures ∙ there))
