@@ -43,7 +43,7 @@ bounds-groups-i c =
 pub overflow_sub-result : goal.overflow_sub-result
 overflow_sub-result c =
     let r = at_place ltb eqb group_of c.args.groups.now c.args.group.0 [] c.in-Ok.i _ c.in-Ok.is c.place.ensures in
-    owners-within _ _ c.owners_of-held.ensures (search (rules, c.told-groups))
+    omega (arith, owners-within _ _ c.owners_of-held.ensures (search (rules, c.told-groups)))
 
 pub returns : goal.returns
 returns c =
