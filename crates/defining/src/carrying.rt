@@ -42,14 +42,8 @@ pub fn carry_out(
     let pair_count = head[PAIR_COUNT] as usize;
     let these = parts.named.rising();
     let those = parts.radios.rising();
-    make_groups(
-        groups,
-        group_count,
-        more_groups,
-        &these,
-        order,
-        &parts.owners,
-    );
+    let come = &parts.owners;
+    make_groups(groups, group_count, more_groups, &these, order, come);
     set_all(pairs, pair_count, more_pairs, &these, &those, state);
     head[GROUP_COUNT] = (group_count + more_groups) as u64;
     head[PAIR_COUNT] = (pair_count + more_pairs) as u64;

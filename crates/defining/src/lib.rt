@@ -11,7 +11,6 @@ mod parts;
 mod putting;
 mod refusing;
 
-ghost use Rattle.std.specs.Prelude.{◌≡◌};
 ghost use Rattle.order.specs.Steps.{define_step};
 ghost use Rattle.store.specs.Storage.{contents};
 ghost use Rattle.replies.specs.Sending.{Sends};

@@ -1,5 +1,5 @@
 // What stands, and how much of what a define names is not there yet.
-ghost use Rattle.std.specs.Prelude.{◌*◌, ◌≤◌, eqb, map, length, ◌≡◌};
+ghost use Rattle.std.specs.Prelude.{◌*◌, ◌≤◌, eqb, map, ◌≡◌};
 ghost use Rattle.rules.specs.Entries.{find};
 ghost use Rattle.rules.specs.Ledger.{same_pair};
 ghost use Rattle.rules.specs.Lists.{present};

@@ -1,5 +1,5 @@
 // The orders of a define, in lent room.
-ghost use Rattle.std.specs.Prelude.{◌≤◌, length, ◌≡◌};
+ghost use Rattle.std.specs.Prelude.{◌≤◌, length};
 ghost use Rattle.order.specs.Keys.{keys_held};
 ghost use Rattle.store.specs.Lists.{Fills};
 ghost use Rattle.replies.specs.Sending.{order_row};

@@ -1,9 +1,8 @@
 // What a define is refused with: each rule over the whole order, in the order of the law.
-ghost use Rattle.std.specs.Prelude.{◌≤◌, ◌||◌, length, map, ◌≡◌};
+ghost use Rattle.std.specs.Prelude.{◌||◌, map, ◌≡◌};
 ghost use Rattle.layout.specs.Frame.{judged_of};
 ghost use Rattle.layout.specs.declared.Kind.TheVariants as Kind;
 ghost use Rattle.rules.specs.Number.{wide_number};
-ghost use Rattle.rules.specs.Named.{max_numbers};
 ghost use Rattle.rules.specs.Recorded.{define_of};
 ghost use Rattle.rules.specs.Refusals.{first, refuses};
 ghost use Rattle.order.specs.Numbers.{radio_number};
@@ -19,24 +18,15 @@ use crate::ordered::Ordered;
 use crate::parts::Parts;
 use frame::{Kind, PLACES};
 use making::owners::any_crowded;
-use order::keys::Keys;
 use order::lists::wide_radio;
-use order::{Itsi, Key, RadioKey};
+use order::{Itsi, RadioKey};
 use refusal::Refusal;
-use rows::{MAX_GROUPS, MAX_NUMBERS, MAX_PAIRS};
+use rows::{MAX_GROUPS, MAX_PAIRS};
 use store::Standing;
 use store::form::Lent;
 use store::named::any_group;
 use table::place::YES;
 use table::place::define::CALL_RELATED;
-
-// How many keys a list has: no more than it has places for, which Keys::len does not say.
-fn key_count<K: Key>(keys: &Keys<K, MAX_NUMBERS>) -> usize
-    ensures value { result ≡ length (keys_held keys.now) }
-    ensures few { result ≤ max_numbers }
-{
-    keys.count.min(MAX_NUMBERS)
-}
 
 // Whether it is a bad order: the asker's number is too wide, or the record has no code.
 fn bad_order(asker: Itsi, place: [u32; PLACES]) -> bool
@@ -77,7 +67,7 @@ fn stand_fault(
         return Err(Refusal::TooManyOwners);
     }
     // The totals, and so the orders, are no more than the lists have places for.
-    let orders = key_count(named) * key_count(&parts.radios);
+    let orders = named.len() * parts.radios.len();
     let group_total = ordered.groups.len() + ordered.new_groups(named);
     let pair_total = ordered.pairs.len() + ordered.new_pairs(named, &parts.radios);
     let full = (MAX_GROUPS < group_total) | (MAX_PAIRS < pair_total);

@@ -30,20 +30,20 @@ turns c =
     let climbs : Climbs ltb (keys_held a.named.now) = rises-climbs ltb below-trans (keys_held a.named.now) c.requires.3 in
     let e : l.j ≡ l.j - 1 + 1 = omega arith in
     turn numbers-linear made group_of group_row (keys_held a.named.now) a.groups.now a.count a.more c.requires.0 climbs
-    (l.j - 1) l.step.left l.step.by l.groups (rw e at l.invariant) 0 _ (omega (arith, c.len-j.ensures)) c.at.ensures
+    (l.j - 1) l.step.left l.step.by l.groups (rw e at l.invariant) 0 _ (omega (arith, c.len-j.ensures.value)) c.at.ensures
 
 -- it is among those named
 named : (c : After-at) → mem c.at.result.0 (keys_held c.args.named.now) ≡ true
 named c =
     let gs = keys_held c.args.named.now in
     let l = c.loop-j in
-    rw c.at.ensures (mem-at gs (l.j - 1) (omega (arith, c.len-j.ensures)))
+    rw c.at.ensures (mem-at gs (l.j - 1) (omega (arith, c.len-j.ensures.value)))
 
 pub loop-j-init : goal.loop-j-init
 loop-j-init c =
     let a = c.args in
     let made : ℕ → Group = made_group (keys_held a.come.now) (group_of a.order).1.parameters (groups_of a.count a.groups.now) in
-    rw c.len-j.ensures (putting-starts numbers-linear made group_of group_row (keys_held a.named.now) a.groups.now a.count a.more c.requires.0)
+    rw c.len-j.ensures.value (putting-starts numbers-linear made group_of group_row (keys_held a.named.now) a.groups.now a.count a.more c.requires.0)
 
 pub make_group-step-requires : goal.make_group-step-requires
 make_group-step-requires c =

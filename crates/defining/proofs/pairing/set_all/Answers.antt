@@ -32,8 +32,8 @@ turns c =
     let l = c.loop-k in
     let j = c.loop-j.j - 1 in
     let k = l.k - 1 in
-    let p : j < length gs = omega (arith, c.len-j.ensures) in
-    let q : k < length rs = omega (arith, c.len-width.ensures) in
+    let p : j < length gs = omega (arith, c.len-j.ensures.value) in
+    let q : k < length rs = omega (arith, c.len-width.ensures.value) in
     let climbs = product-climbs gs rs (rises-climbs ltb below-trans gs c.requires.1) (rises-climbs ltb below-trans rs c.requires.2) in
     let e : j * length rs + l.k ≡ j * length rs + k + 1 = omega arith in
     let inside : j * length rs + k < length (product gs rs) = omega (arith, product-length gs rs, mul-add-lt j (length rs) k (length gs) p q) in
@@ -47,7 +47,7 @@ loop-j-init c =
     let gs = keys_held a.named.now in
     let rs = keys_held a.radios.now in
     let n : c.len-j.result * length rs ≡ length (product gs rs) =
-    ap (λ (m : ℕ). m * length rs) c.len-j.ensures ∙ sym (product-length gs rs) in
+    ap (λ (m : ℕ). m * length rs) c.len-j.ensures.value ∙ sym (product-length gs rs) in
     rw n (putting-starts pairs-linear (λ k. fresh a.state) pair_of pair_row (product gs rs) a.pairs.now a.count a.more c.requires.0)
 
 pub set_pair-step-requires : goal.set_pair-step-requires

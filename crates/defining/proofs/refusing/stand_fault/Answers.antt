@@ -26,7 +26,7 @@ use Rattle.making.specs.Owners.{owner_total}
 use Rattle.defining.specs.Totals.{new_groups, new_radios, new_pairs}
 use Rattle.defining.proofs.Sums.{sum-most}
 use Rattle.defining.proofs.refusing.stand_fault.Goals as goal
-use Rattle.defining.proofs.refusing.stand_fault.Goals.{After-any_group, After-any_crowded, After-key_count-2, After-new_pairs}
+use Rattle.defining.proofs.refusing.stand_fault.Goals.{After-any_group, After-any_crowded, After-len-2, After-new_pairs}
 
 -- the totals are those of the lists
 full : (c : After-new_pairs) → let a = c.args in
@@ -61,17 +61,17 @@ crowded c =
     (keys_held a.parts.now.named))
 
 -- no more groups or pairs are new than the lists have places for
-few-groups : (c : After-key_count-2) → new_groups (map group_of c.args.ordered.groups.now) (keys_held c.args.parts.now.named) ≤ max_numbers
+few-groups : (c : After-len-2) → new_groups (map group_of c.args.ordered.groups.now) (keys_held c.args.parts.now.named) ≤ max_numbers
 few-groups c =
     let a = c.args in
     omega (
       arith,
       length-keep (λ (g : ℕ). not (present (find eqb (map group_of a.ordered.groups.now) g))) (keys_held a.parts.now.named),
-      c.key_count.ensures.value,
-      c.key_count.ensures.few,
+      c.len.ensures.value,
+      c.len.ensures.few,
     )
 
-few-pairs : (c : After-key_count-2) →
+few-pairs : (c : After-len-2) →
     new_pairs (map pair_of c.args.ordered.pairs.now) (keys_held c.args.parts.now.radios) (keys_held c.args.parts.now.named) ≤ max_numbers * max_numbers
 few-pairs c =
     let a = c.args in
@@ -79,14 +79,14 @@ few-pairs c =
     let rs = keys_held a.parts.now.radios in
     let gs = keys_held a.parts.now.named in
     let each : (g : ℕ) → new_radios ps rs g ≤ length rs = λ g. length-keep (λ (r : ℕ). not (present (find same_pair ps (g, r)))) rs in
-    let few : length gs ≤ max_numbers = omega (arith, c.key_count.ensures.value, c.key_count.ensures.few) in
-    let few-radios : length rs ≤ max_numbers = omega (arith, c.key_count-2.ensures.value, c.key_count-2.ensures.few) in
+    let few : length gs ≤ max_numbers = omega (arith, c.len.ensures.value, c.len.ensures.few) in
+    let few-radios : length rs ≤ max_numbers = omega (arith, c.len-2.ensures.value, c.len-2.ensures.few) in
     let most : length gs * length rs ≤ max_numbers * max_numbers = mul-le-mul few few-radios in
     omega (arith, sum-most (new_radios ps rs) (length rs) each gs, most)
 
 pub overflow_mul-orders : goal.overflow_mul-orders
 overflow_mul-orders c =
-    let most : c.key_count.result * c.key_count-2.result ≤ max_numbers * max_numbers = mul-le-mul c.key_count.ensures.few c.key_count-2.ensures.few in
+    let most : c.len.result * c.len-2.result ≤ max_numbers * max_numbers = mul-le-mul c.len.ensures.few c.len-2.ensures.few in
     omega (arith, most)
 
 pub returns-then-any_group : goal.returns-then-any_group
@@ -101,15 +101,15 @@ returns-then-any_crowded c =
 
 pub overflow_add-group_total : goal.overflow_add-group_total
 overflow_add-group_total c =
-    let d = (goal.at.overflow_add-group_total c).After-key_count-2 in
+    let d = (goal.at.overflow_add-group_total c).After-len-2 in
     omega (arith, few-groups d, c.new_groups.ensures, c.args.ordered.in_order.few_groups)
 
 pub new_pairs-requires : goal.new_pairs-requires
-new_pairs-requires c = few-pairs (goal.at.new_pairs-requires c).After-key_count-2
+new_pairs-requires c = few-pairs (goal.at.new_pairs-requires c).After-len-2
 
 pub overflow_add-pair_total : goal.overflow_add-pair_total
 overflow_add-pair_total c =
-    let d = (goal.at.overflow_add-pair_total c).After-key_count-2 in
+    let d = (goal.at.overflow_add-pair_total c).After-len-2 in
     omega (arith, few-pairs d, c.new_pairs.ensures, c.args.ordered.in_order.few_pairs)
 
 pub returns-then-full : goal.returns-then-full
@@ -124,11 +124,11 @@ returns-then-room-orders c =
     let p = goal.at.returns-then-room-orders c in
     let o = sym (owned p.After-any_group) ∙ c.if-any_group.false in
     let w = sym (crowded p.After-any_crowded) ∙ c.if-any_crowded.false in
-    rw (o, w, ← full p.After-new_pairs, c.if-full.false, ← c.key_count.ensures.value, ← c.key_count-2.ensures.value, lt-ltb _ _ c.if-room-orders.true)
+    rw (o, w, ← full p.After-new_pairs, c.if-full.false, ← c.len.ensures.value, ← c.len-2.ensures.value, lt-ltb _ _ c.if-room-orders.true)
 
 pub returns : goal.returns
 returns c =
     let p = goal.at.returns c in
     let o = sym (owned p.After-any_group) ∙ c.if-any_group.false in
     let w = sym (crowded p.After-any_crowded) ∙ c.if-any_crowded.false in
-    rw (o, w, ← full p.After-new_pairs, c.if-full.false, ← c.key_count.ensures.value, ← c.key_count-2.ensures.value, le-ltb _ _ c.if-room-orders.false)
+    rw (o, w, ← full p.After-new_pairs, c.if-full.false, ← c.len.ensures.value, ← c.len-2.ensures.value, le-ltb _ _ c.if-room-orders.false)
