@@ -17,6 +17,7 @@ fn remove_groups(groups: &mut [[u64; GROUP_WORDS]], count: usize, gone: &[u64]) 
         groups.old groups.new result }
 {
     let mut kept: usize = 0;
+    // Stays: two places of one slice, which no iterator lends both.
     for i in 0..count {
         let row = groups[i];
         if !gone.contains(&row[KEY_WORD]) {

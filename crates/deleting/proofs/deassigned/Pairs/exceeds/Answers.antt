@@ -14,7 +14,8 @@ use Rattle.deleting.proofs.deassigned.Pairs.exceeds.Goals as goal
 use Rattle.deleting.proofs.deassigned.Pairs.exceeds.Goals.{After-count_deassigned-n}
 
 -- the group at hand is one of those named
-at : (c : After-count_deassigned-n) → get_or c.as_slice-group-items.result.now c.loop-group.group-index 0 ≡ get_or (named c.args.asked.now) c.loop-group.group-index 0
+at : (c : After-count_deassigned-n) →
+    get_or c.as_slice-group-items.result.now c.loop-group.group-index 0 ≡ get_or (named c.args.asked.now) c.loop-group.group-index 0
 at c = ap (λ (z : List ℕ). get_or z c.loop-group.group-index 0) c.as_slice-group-items.ensures
 
 inside : (c : After-count_deassigned-n) → c.loop-group.group-index < length (named c.args.asked.now)

@@ -25,7 +25,11 @@ rows c =
     sym (length-map (take (s.to - s.from) (drop s.from c.args.self.rows.now)) radio_in) ∙ ap length (stretch c).radios
 
 pub offset_bounds-self-stretch : goal.offset_bounds-self-stretch
-offset_bounds-self-stretch c = let s = stretch (goal.at.offset_bounds-self-stretch c).After-stretch_of-stretch in let o = s.ordered in let i = s.inside in search rules
+offset_bounds-self-stretch c =
+    let s = stretch (goal.at.offset_bounds-self-stretch c).After-stretch_of-stretch in
+    let o = s.ordered in
+    let i = s.inside in
+    search rules
 
 pub slice_bounds-rows-count : goal.slice_bounds-rows-count
 slice_bounds-rows-count c = (stretch (goal.at.slice_bounds-rows-count c).After-stretch_of-stretch).ordered
