@@ -137,7 +137,7 @@ fn outcome(kind: AnswerKind, res: u64) -> Option<u64>
 }
 
 // The pair at a place has its state then, with no ticks, or is taken away, and those behind it move down. The new count is returned.
-// Stays: a slice and a count, as what stands behind the pairs in use is lent too, and stays as it was.
+// Stays: a slice and a count, since what comes back is the new count, and what `answer` promises is of all the rows that are lent.
 fn settle(pairs: &mut [[u64; PAIR_WORDS]], count: usize, at: usize, left: Option<u64>) -> usize
     requires { (at < count) × (count ≤ length pairs.old) × Plain pair_of pair_row count pairs.old }
     ensures { Fills pair_row (settled (pair_of (get_or pairs.old at [])).0 (as_mark left) at (pairs_of count pairs.old))

@@ -34,7 +34,7 @@ impl<'a> Frame<'a> {
     ghost use Rattle.reading.specs.Reads.{bits_in, recorded, Fills};
 
     // The rows of a shape that is there.
-    // Stays: at and into apart, since `?` hands the next bit on from method to method, and the record is lent to each.
+    // Stays: at and into apart: the next bit is what each method answers, and `?` hands it on; in the record it would be set in two places.
     fn shape(self, at: usize, into: &mut Filling, shape: Shape) -> Result<usize, Refused>
         requires { (into.old.place + span shape ≤ PLACES) × T (sound shape into.old.place) }
         ensures { Fills (rows_of shape [] into.old.place) (bits_in self.entry) at into.old into.new result }

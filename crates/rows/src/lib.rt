@@ -97,6 +97,7 @@ pub const LEAVING_UNHEARD: u64 = 6;
 pub const T1: u64 = 30;
 
 // The lesser of two numbers.
+// Stays: lesser-unique speaks of it; where a lesser is wanted, std's `min` is written.
 pub fn lesser(a: usize, b: usize) -> usize
     ensures { result ≡ min a b }
 {

@@ -93,6 +93,7 @@ impl Row for [u64; PAIR_WORDS] {
 }
 
 // Whether it stands at its place.
+// Stays: stands-unique speaks of it, and it names what `is_ok` means of a place.
 pub fn stands(place: Result<usize, usize>) -> bool
     ensures { result ≡ stands_at place }
 {

@@ -79,7 +79,7 @@ fn turned(turn: Turn, named: bool, row: [u64; PAIR_WORDS]) -> Option<[u64; PAIR_
 }
 
 // Each pair is changed in its place or taken out; those that stay close up in their order, and their count is returned.
-// Stays: a slice and a count, as what stands behind the pairs in use is lent too, and stays as it was. Turn beside the lists that a tick
+// Stays: a slice and a count, as turn-pairs-unique speaks of all that is lent, for any count. Turn beside the lists that a tick
 // does not look at: a case that held them would be made anew for each of two cases, and turn_of, under turn-pairs-unique, takes them apart.
 pub fn turn_pairs(
     pairs: &mut [[u64; PAIR_WORDS]],

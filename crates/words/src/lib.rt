@@ -228,6 +228,7 @@ pub fn series(line: &[u8], at: usize) -> Option<Taken<Numbers>>
     let code = short_digits(line, mark(line, at, b' ')?, 1)?;
     let mut identity = [identity_of(0, 0, 0); MOST];
     let mut next = mark(line, code.next, b':')?;
+    // Stays: by index, since of a slice lent by iter_mut a proof knows the length alone.
     for i in 0..MOST {
         let Some(start) = item(line, next, i) else {
             break;
