@@ -77,6 +77,7 @@ pub fn make_groups(
         left: count,
         by: more,
     };
+    // Stays: by place, since what is put is the groups from place j on; words from the end tell no place, and would be made keys again.
     for j in (0..named.len()).rev() {
         step = make_group(groups, step, named.at(j), order, come);
     }

@@ -52,6 +52,7 @@ pub fn set_all(
         left: count,
         by: more,
     };
+    // Stays: by place, since what is put is the pairs from the place j * width + k on, which words from the end don't tell.
     for j in (0..named.len()).rev() {
         for k in (0..width).rev() {
             step = set_pair(pairs, step, named.at(j), radios.at(k), state);
