@@ -50,11 +50,18 @@ fn value_of(character: u8) -> u8
 }
 
 // The digit of a value below 16.
-pub fn digit_of(value: u8) -> u8
+fn digit(value: u8) -> u8
     requires { value < 16 }
     ensures { result ≡ digit_of value }
 {
     DIGITS[usize::from(value)]
+}
+
+// The digit of a value's lowest four bits.
+pub fn digit_of(value: u8) -> u8
+    ensures { result ≡ digit_of (value % 16) }
+{
+    digit(value % 16)
 }
 
 // Takes bytes out of their digits; nothing where a character is no digit.
@@ -148,8 +155,8 @@ fn put_byte(byte: u8, out: &mut [u8], at: usize)
     requires { at + 1 < length out.old }
     ensures { out.new ≡ sets out.old at (digits_of (byte ∷ [])) }
 {
-    out[at] = digit_of(byte / 16);
-    out[at + 1] = digit_of(byte % 16);
+    out[at] = digit(byte / 16);
+    out[at + 1] = digit(byte % 16);
 }
 
 // Puts the digits of bytes from `at` on.
