@@ -10,7 +10,7 @@ use rows::{GROUP_WORDS, KEY_WORD, PAIR_WORDS};
 use turning::{Turn, turn_pairs};
 
 // The groups that go are taken out, the others close up in their order; their count is returned.
-// Stays: a slice and a count, as what stands behind the groups in use is lent too, and stays as it was.
+// Stays: a slice and a count, since what comes back is the new count, and delete promises what all rows that are lent hold then.
 fn remove_groups(groups: &mut [[u64; GROUP_WORDS]], count: usize, gone: &[u64]) -> usize
     requires { (count ≤ length groups.old) × Plain group_of group_row count groups.old }
     ensures { Fills group_row (remaining gone.now (groups_of count groups.old))

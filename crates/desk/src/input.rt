@@ -86,6 +86,7 @@ impl Input {
     }
 
     // Reads once, where all that was read is taken: whether the input goes on. An interrupted read brings nothing, and the next turn reads again.
+    // Stays: echo's reads behind what it holds; this one and `tell` are alike in what they tell alone, each in its program's name.
     pub fn read_more(
         &mut self,
         rt: &impl Eprint,

@@ -79,11 +79,7 @@ pub struct Question {
 
 // What was read, if the line ends behind it.
 pub fn ended<T: Copy>(line: &[u8], taken: Taken<T>) -> Option<T> {
-    if taken.next == line.len() {
-        Some(taken.value)
-    } else {
-        None
-    }
+    (taken.next == line.len()).then_some(taken.value)
 }
 
 // A radio's number.

@@ -1,4 +1,5 @@
 // The storage that is lent to the ledger; and M: a word of it is set, as failing memory would set it.
+use crate::lines::ended;
 use ledger::{
     ENTRY_WORDS, GROUP_WORDS, HEAD_WORDS, MAX_GROUPS, MAX_PAIRS, ORDER_WORDS, PAIR_WORDS,
 };
@@ -51,15 +52,12 @@ fn read_setting(line: &[u8]) -> Option<Setting> {
     let part = Part::try_from(*line.get(from)?).ok()?;
     let row = word(line, from + 1, 4)?;
     let at = word(line, row.next, 4)?;
-    let value = word(line, at.next, 16)?;
-    if value.next != line.len() {
-        return None;
-    }
+    let value = ended(line, word(line, at.next, 16)?)?;
     Some(Setting {
         part,
         row: row.value as usize,
         at: at.value as usize,
-        value: value.value,
+        value,
     })
 }
 

@@ -49,7 +49,7 @@ fn consecutive_keys<K>(first: u64, count: usize) -> Keys<K, MAX_NUMBERS>
     ensures { result ≡ keys_as (consecutive first count) }
 {
     let mut key = [0u64; MAX_NUMBERS];
-    // Stays: by index, since of a slice lent by iter_mut a proof knows the length alone.
+    // Stays: by index, which is what is added; with iter_mut it would be counted beside it.
     for i in 0..count {
         key[i] = first + i as u64;
     }

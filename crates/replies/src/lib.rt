@@ -6,8 +6,8 @@ use order::Itsi;
 use rows::{MAX_LETTERS, MAX_OWNERS};
 
 // What a show is answered with: the owners, rising, and the parameters.
-// Stays: each value one up and 0 where absent, as a group's row has it and its printer reads it (shown_as); arrays with their counts,
-// since the words past them are 0 by show-unique, and the value is Copy.
+// Stays: each value one up and 0 where absent, as a group's row has it: an Option of each would be made of the row's word and be taken
+// apart again where it is told. Arrays with their counts, since the words past them are 0 by show-unique, and the value is Copy.
 #[derive(Clone, Copy)]
 pub struct Shown {
     pub count: usize,

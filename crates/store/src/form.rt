@@ -1,4 +1,4 @@
-// The written form of the lent storage.
+// The written form of the lent storage. The tests of a row are all asked, by `&` and `|`, which takes fewer instructions than one after the other.
 ghost use Rattle.std.specs.Prelude.{◌≤◌, leb, map, length, get_or, take, true, ◌≡◌};
 ghost use Rattle.rules.specs.Lists.{any};
 ghost use Rattle.rules.specs.Mark.{timed};

@@ -27,6 +27,7 @@ pub struct Taken<T> {
 }
 
 // The value of an upper-case hexadecimal digit.
+// Stays: house's value_of looks into a table, for speed, with 16 for what is no digit; here a match says None itself.
 #[tactic(auto, unfolding(house::specs::Hex::digit_value))]
 fn digit(character: u8) -> Option<u64>
     ensures { result ≡ digit_at character }
@@ -228,7 +229,7 @@ pub fn series(line: &[u8], at: usize) -> Option<Taken<Numbers>>
     let code = short_digits(line, mark(line, at, b' ')?, 1)?;
     let mut identity = [identity_of(0, 0, 0); MOST];
     let mut next = mark(line, code.next, b':')?;
-    // Stays: by index, since of a slice lent by iter_mut a proof knows the length alone.
+    // Stays: by index, which `item` is asked with; with iter_mut it would be counted beside it.
     for i in 0..MOST {
         let Some(start) = item(line, next, i) else {
             break;
