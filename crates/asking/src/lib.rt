@@ -55,7 +55,7 @@ fn list_pairs(pairs: &[[u64; PAIR_WORDS]], group: GroupKey, out: &mut [[u64; ENT
     requires mine { OfGroup group.0 pairs.now }
     ensures { out.new ≡ onto (map (λ row. entry_row (listed (pair_of row))) pairs.now) out.old }
 {
-    // Stays: by index, since of a slice lent by iter_mut a proof knows the length alone.
+    // Stays: by index, since behind a zip of iter_mut a proof knows the slice's length and no element.
     for (i, row) in pairs.iter().enumerate() {
         let radio = RadioKey(row[PAIR_RADIO]);
         if let Some(state) = state_in(*row, group, radio) {

@@ -28,7 +28,7 @@ fn push_rows(rows: &[[u64; PAIR_WORDS]], group: GroupKey, out: &mut [[u64; ORDER
     requires { at + length rows.now ≤ length out.old }
     ensures { out.new ≡ paste out.old at (deassign_rows group.0 (map radio_in rows.now)) (length rows.now) }
 {
-    // Stays: by index, since of a slice lent by iter_mut a proof knows the length alone.
+    // Stays: by index, since behind a zip of iter_mut a proof knows the slice's length and no element.
     for (i, row) in rows.iter().enumerate() {
         out[at + i] = order_row(DEASSIGN, RadioKey(row[PAIR_RADIO]), group);
     }

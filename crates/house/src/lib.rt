@@ -74,7 +74,7 @@ fn take_bytes(text: &[u8], bytes: &mut [u8]) -> Option<()>
     // 16 comes in with a character that is no digit, and stays.
     let mut seen = 0u8;
     let (pairs, _) = text.as_chunks::<2>();
-    // Stays: by index, since of a slice lent by iter_mut a proof knows the length alone.
+    // Stays: by index, since behind a zip of iter_mut a proof knows the slice's length and no element.
     for (i, pair) in pairs.iter().enumerate() {
         let high = value_of(pair[0]);
         let low = value_of(pair[1]);
@@ -164,7 +164,7 @@ fn put_bytes(bytes: &[u8], out: &mut [u8], at: usize)
     requires { at + 2 * length bytes.now ≤ length out.old }
     ensures { out.new ≡ sets out.old at (digits_of bytes.now) }
 {
-    // Stays: by index, since of a slice lent by iter_mut a proof knows the length alone.
+    // Stays: by index, since behind a zip of iter_mut a proof knows the slice's length and no element.
     for (i, byte) in bytes.iter().enumerate() {
         put_byte(*byte, out, at + 2 * i);
     }

@@ -39,7 +39,7 @@ fn push_rows(out: &mut [[u64; ORDER_WORDS]], at: usize, kind: u64, group: GroupK
     ensures { out.new ≡ paste out.old at (map order_row (orders kind group.0 radios.now))
         (length radios.now) }
 {
-    // Stays: by index, since of a slice lent by iter_mut a proof knows the length alone.
+    // Stays: by index, since behind a zip of iter_mut a proof knows the slice's length and no element.
     for (i, radio) in radios.iter().enumerate() {
         out[at + i] = order_row(kind, RadioKey(*radio), group);
     }

@@ -21,7 +21,7 @@ pub fn put_digits(value: u64, width: usize, out: &mut [u8], at: usize) -> usize
     ensures { Put (digits_text value width) out.old out.new at result }
 {
     let mut rest = value;
-    // Stays: by index, since of a slice lent by iter_mut a proof knows the length alone.
+    // Stays: by index, since behind a rev of iter_mut a proof knows the slice's length and no element.
     for i in (0..width).rev() {
         out[at + i] = digit_of((rest % 16) as u8);
         rest /= 16;
