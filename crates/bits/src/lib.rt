@@ -131,7 +131,7 @@ fn lay_number(bytes: &mut [u8], number: u64)
     ensures { bytes.new ≡ bytes_in (length bytes.old) number }
 {
     let mut rest = number;
-    // Stays: by index, since of a slice lent by iter_mut a proof knows the length alone.
+    // Stays: by index, since behind a rev of iter_mut a proof knows the slice's length and no element.
     for i in (0..bytes.len()).rev() {
         bytes[i] = (rest % 256) as u8;
         rest /= 256;
