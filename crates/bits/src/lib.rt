@@ -70,7 +70,7 @@ impl<'a> Reader<'a> {
         ensures { result ≡ field_at self.entry.frame.now self.entry.bits self.entry.at width }
     {
         let Reader { frame, bits, at } = self;
-        // Stays: test by test; joined by `||` they miss a bar: echo's instructions a line, as docs/SPEED.md counts them, rise by a tenth.
+        // Stays: test by test; joined by `||` they miss a bar: echo's instructions a line, as docs/SPEED.md counts them, rise by 7 to 9 per cent.
         if frame.len() < bits.div_ceil(8) {
             return None;
         }

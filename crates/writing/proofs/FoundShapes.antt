@@ -1,7 +1,8 @@
 -- What each shape finds, by what its parts promise.
 -- Assumes nothing.
 use Rattle.std.specs.Prelude.{⊤}
-use Rattle.std.proofs.Common.{◌≡◌, ℕ, suc, ◌+◌, ◌^◌, ◌<◌, ◌≤◌, Bool, T, eqb, leb, Option, Some, None, List, [], ◌∷◌, get_or, take, drop, sym, refl, ap, ◌∙◌, subst, inl, inr, add-one, arith, get_or-take, pow_mono}
+use Rattle.std.proofs.Common.{◌≡◌, ℕ, suc, ◌+◌, ◌^◌, ◌<◌, ◌≤◌, Bool, T, eqb, leb, Option, Some, None, List, [], ◌∷◌, get_or, take, drop, sym, refl}
+use Rattle.std.proofs.Common.{ap, ◌∙◌, subst, inl, inr, add-one, arith, get_or-take, pow_mono}
 use borrow.Author.Tests.{lt-leb}
 use Rattle.refusal.specs.declared.Refusal.TheVariants.{NoGroup, NothingFollows, TypeThree}
 use Rattle.layout.specs.declared.Items.{Items}

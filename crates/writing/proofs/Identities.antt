@@ -1,6 +1,7 @@
 -- An identity and an item of a list, passed: which rows are there is asked of the caller's record, which the cleaned one agrees with at the place asked.
 -- Assumes nothing.
-use Rattle.std.proofs.Common.{◌≡◌, ℕ, zero, suc, ◌+◌, ◌*◌, ◌<◌, ◌≤◌, Option, Some, None, List, [], ◌∷◌, get_or, drop, set, sym, refl, ◌∙◌, subst, arith, length-set, get_or-set_other}
+use Rattle.std.proofs.Common.{◌≡◌, ℕ, zero, suc, ◌+◌, ◌*◌, ◌<◌, ◌≤◌, Option, Some, None, List, [], ◌∷◌, get_or, drop, set, sym, refl, ◌∙◌, subst}
+use Rattle.std.proofs.Common.{arith, length-set, get_or-set_other}
 use Rattle.writing.specs.Pass.{Pass}
 use Rattle.layout.specs.Row.{at_least}
 use Rattle.layout.specs.Shape.{identity, item, stride}

@@ -1,6 +1,9 @@
 -- Writing, row by row: laws over the rows that a walk passes, whichever of the two it is.
 -- Assumes nothing.
-use Rattle.std.proofs.Common.{◌≡◌, ℕ, suc, ◌+◌, ◌-◌, ◌*◌, ◌%◌, ◌^◌, ◌<◌, ◌≤◌, Bool, true, false, ◌&&◌, ltb, leb, ◌⊎◌, Option, Some, None, List, [], ◌∷◌, ◌++◌, length, get_or, take, drop, set, sym, refl, ap, ◌∙◌, subst, ap₂, inl, inr, append_assoc, append-nil, add-zero, add_assoc, add-one, arith, length-append, length-set, take-append-drop, length-take-le, get_or-drop, take-suc, take-take, drop-drop, take-suc-set, take_at, drop-set-lt, drop_at, le-ltb, lt-ltb, le-leb, leb-true}
+use Rattle.std.proofs.Common.{◌≡◌, ℕ, suc, ◌+◌, ◌-◌, ◌*◌, ◌%◌, ◌^◌, ◌<◌, ◌≤◌, Bool, true, false, ◌&&◌, ltb, leb, ◌⊎◌, Option, Some, None, List, []}
+use Rattle.std.proofs.Common.{◌∷◌, ◌++◌, length, get_or, take, drop, set, sym, refl, ap, ◌∙◌, subst, ap₂, inl, inr, append_assoc, append-nil}
+use Rattle.std.proofs.Common.{add-zero, add_assoc, add-one, arith, length-append, length-set, take-append-drop, length-take-le, get_or-drop, take-suc}
+use Rattle.std.proofs.Common.{take-take, drop-drop, take-suc-set, take_at, drop-set-lt, drop_at, le-ltb, lt-ltb, le-leb, leb-true}
 use mathlib.Core.List.{tail}
 use lib.Seq.{take-set-le, drop-nil}
 use Rattle.bits.specs.Bits.{digits, bits_of}

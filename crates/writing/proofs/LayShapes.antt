@@ -1,7 +1,9 @@
 -- An element's rows, passed: what a shape finds, under its conditions or without.
 -- Assumes nothing.
 use Rattle.std.specs.Prelude.{⊤}
-use Rattle.std.proofs.Common.{◌≡◌, ℕ, zero, suc, ◌+◌, ◌*◌, ◌^◌, ◌<◌, ◌≤◌, Bool, true, false, cond, eqb, ltb, leb, ◌⊎◌, Option, Some, None, List, [], ◌∷◌, ◌++◌, length, get_or, take, drop, sym, refl, ap, ◌∙◌, subst, inl, inr, add-zero, add-one, arith, length-take-le, get_or-drop, get_or-take, take-suc, leb-true}
+use Rattle.std.proofs.Common.{◌≡◌, ℕ, zero, suc, ◌+◌, ◌*◌, ◌^◌, ◌<◌, ◌≤◌, Bool, true, false, cond, eqb, ltb, leb, ◌⊎◌, Option, Some, None, List, []}
+use Rattle.std.proofs.Common.{◌∷◌, ◌++◌, length, get_or, take, drop, sym, refl, ap, ◌∙◌, subst, inl, inr, add-zero, add-one, arith, length-take-le}
+use Rattle.std.proofs.Common.{get_or-drop, get_or-take, take-suc, leb-true}
 use mathlib.Core.List.{tail}
 use native.Mathlib.Decide.{dec_lt}
 use lib.Seq.{get_or_at}

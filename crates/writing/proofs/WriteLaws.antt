@@ -1,6 +1,8 @@
 -- A whole frame, written: the judgement of a record, its bits over those of the bytes, and the bytes before and after it.
 -- Assumes nothing.
-use Rattle.std.proofs.Common.{◌≡◌, ℕ, zero, suc, ◌+◌, ◌-◌, ◌*◌, ◌^◌, ◌<◌, ◌≤◌, Bool, true, false, cond, T, Result, Ok, Err, List, [], ◌++◌, length, take, drop, replicate, sym, refl, ap, ◌∙◌, subst, ap₂, append-nil, zero-add, zero-mul, arith, length-append, length-drop, drop_of_length-le, get_or-drop, take_all, drop-drop, take_at, drop_at}
+use Rattle.std.proofs.Common.{◌≡◌, ℕ, zero, suc, ◌+◌, ◌-◌, ◌*◌, ◌^◌, ◌<◌, ◌≤◌, Bool, true, false, cond, T, Result, Ok, Err, List, [], ◌++◌, length}
+use Rattle.std.proofs.Common.{take, drop, replicate, sym, refl, ap, ◌∙◌, subst, ap₂, append-nil, zero-add, zero-mul, arith, length-append}
+use Rattle.std.proofs.Common.{length-drop, drop_of_length-le, get_or-drop, take_all, drop-drop, take_at, drop_at}
 use Rattle.std.specs.Prelude.{⊤}
 use borrow.Rule.Slice.PartMut.{put_mid, mid_of, post_of}
 use lib.ListN.{length-replicate}

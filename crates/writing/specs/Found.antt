@@ -1,6 +1,7 @@
 -- Elements, part way: what the writer's parts promise of an element, by what it looks at.
 -- Assumes nothing.
-use Rattle.std.specs.Prelude.{◌≡◌, ℕ, zero, suc, ◌+◌, ◌*◌, Bool, true, false, Option, Some, None, ⊤, List, length, take, drop, ◌==◌, ◌≢◌, nat_eq, nat_le, slice_index}
+use Rattle.std.specs.Prelude.{◌≡◌, ℕ, zero, suc, ◌+◌, ◌*◌, Bool, true, false, Option, Some, None, ⊤, List, length, take, drop, ◌==◌, ◌≢◌, nat_eq}
+use Rattle.std.specs.Prelude.{nat_le, slice_index}
 use Rattle.writing.specs.Pass.{Pass, Judge, Lay}
 use Rattle.writing.specs.declared.walk.Passed.{Passed}
 use Rattle.writing.specs.declared.walk.Passed.TheVariants.{Empty, Held, NoGroup}

@@ -6,7 +6,8 @@ use lib.ListN.{length}
 use Rattle.std.specs.Prelude.{is_some}
 use Rattle.house.specs.Unpacked.{Unpacked}
 use Rattle.house.proofs.Headings.{odd-length, too_long, no-digits, not-named, unpacked}
-use Rattle.house.proofs.unpack.Goals.{then-digits-lt6-via-then-digits-lt6, then-digits-lt6-via-else-digits-lt6+then-digits-gt-LINE_DIGITS, then-digits-lt6-via-else-digits-lt6+else-digits-gt-LINE_DIGITS+then-digits-eq1}
+use Rattle.house.proofs.unpack.Goals.{then-digits-lt6-via-then-digits-lt6, then-digits-lt6-via-else-digits-lt6+then-digits-gt-LINE_DIGITS}
+use Rattle.house.proofs.unpack.Goals.{then-digits-lt6-via-else-digits-lt6+else-digits-gt-LINE_DIGITS+then-digits-eq1}
 use Rattle.house.proofs.unpack.Goals as goal
 
 pub returns-then-digits-lt6 : goal.returns-then-digits-lt6
