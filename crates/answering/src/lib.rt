@@ -31,6 +31,13 @@ const LAST_RESULT: u64 = 4;
 // The result by which a radio accepts.
 const ACCEPTED: u64 = 1;
 
+// No group, for a tick, which names none. A static lies among the program's constants: nothing is cleared at each tick.
+static NO_GROUPS: Groups = Groups {
+    count: 0,
+    key: [0; MAX_NUMBERS],
+    of: PhantomData,
+};
+
 // An empty ledger over any contents.
 pub fn empty(
     head: &mut [u64],
@@ -70,16 +77,11 @@ pub fn tick(
     if !lent.written() {
         return Err(Refusal::NotWritten);
     }
-    let none_named = Groups {
-        count: 0,
-        key: [0; MAX_NUMBERS],
-        of: PhantomData,
-    };
     turn_pairs(
         pairs,
         head[PAIR_COUNT] as usize,
         Turn::Tick,
-        &none_named,
+        &NO_GROUPS,
         None,
     );
     Ok(())

@@ -1,6 +1,7 @@
 // Rows put from the last down, each at its place: what stands behind it moves up first, once.
-ghost use Rattle.std.specs.Prelude.{◌≤◌, ◌≡◌};
+ghost use Rattle.std.specs.Prelude.{◌≤◌, ◌≡◌, ◌+◌, length};
 ghost use Rattle.rules.specs.Refusals.{max_pairs};
+ghost use Rattle.order.specs.Walks.{moved};
 ghost use Rattle.store.specs.Places.{index_of, behind_of};
 ghost use Rattle.defining.specs.Putting.{Opens, Puts};
 
@@ -24,6 +25,16 @@ fn behind(place: Result<usize, usize>) -> usize
     }
 }
 
+// The rows from `from` on and before `to` move up by so many places. Where nothing new comes none is copied onto itself.
+fn move_up<R: Copy>(rows: &mut [R], from: usize, to: usize, by: usize)
+    requires { (from ≤ to) × (to + by ≤ length rows.old) }
+    ensures { rows.new ≡ moved by from to rows.old }
+{
+    if 0 < by {
+        rows.copy_within(from..to, from + by);
+    }
+}
+
 // How far rows are put, from the last down: so many stand as they were before the last that was put, and so many new ones come among them.
 // Stays: two counts, and no twin of store's Stretch, which has two places.
 #[derive(Clone, Copy)]
@@ -40,7 +51,7 @@ impl Step {
     {
         let left = index(place);
         let from = behind(place);
-        rows.copy_within(from..self.left, from + self.by);
+        move_up(rows, from, self.left, self.by);
         let at = from + self.by - 1;
         rows[at] = row;
         Step {

@@ -1,17 +1,19 @@
 -- Laws of a reply that is put into a buffer.
 use mathlib.Core.Path.{◌≡◌, sym, ap, ◌∙◌}
 use mathlib.Core.List.{List, [], ◌∷◌, ◌++◌, append_assoc, append-nil}
-use Prim.Native.Nat.{ℕ, suc, ◌+◌, ◌-◌, ◌≤◌}
+use Prim.Native.Nat.{ℕ, suc, ◌+◌, ◌-◌, ◌≤◌, ◌<◌}
 use native.Mathlib.Nat.{add-zero, zero-add}
 use native.Mathlib.Omega.{arith}
 use lib.ListN.{length, set, take, drop, length-append, length-drop, drop_of_length-le}
 use lib.Seq.{sets, sets-eq, take_all, drop-drop}
 use borrow.Rule.Slice.PartMut.{mid_of, post_of, put_mid}
 use borrow.Author.Tests.{le-leb}
+use Rattle.std.proofs.lemmas.Bool.{lt-leb}
 use Rattle.house.specs.Echo.{echo_line, echo_within}
 use Rattle.house.specs.Sent.{Sent}
 use Rattle.echo.specs.Line.{newline}
 use Rattle.echo.specs.Reply.{reply_to}
+use Rattle.echo.specs.Room.{longest_reply, room, filled_after}
 
 -- one character more behind a text that was stored
 sets_more : (l : List ℕ) (i : ℕ) (text : List ℕ) (a : ℕ) → set (sets l i text) (i + length text) a ≡ sets l i (text ++ a ∷ [])
@@ -46,3 +48,11 @@ part-stored l text part at size whole fits stored =
     let placed : part ≡ text ++ drop (at + length text) l =
     stored ∙ ap (λ (m : List ℕ). sets m 0 text) mid ∙ sets-eq text (drop at l) 0 (omega arith) ∙ ap (λ (r : List ℕ). text ++ r) behind in
     rw (post, append-nil, placed, sets-eq text l at (omega arith)) (sym (append_assoc (take at l) text (drop (at + length text) l)))
+
+-- where the next reply fits, the replies wait behind one another; where it might not, none is left
+module _ (filled count size : ℕ) (counted : count ≡ size) where
+  pub waits : filled + count + longest_reply ≤ room → filled + count ≡ filled_after (filled + size)
+  waits fits = rw (sym counted, le-leb (filled + count + longest_reply) room fits)
+
+  pub none-waits : room < filled + count + longest_reply → 0 ≡ filled_after (filled + size)
+  none-waits full = rw (sym counted, lt-leb (filled + count + longest_reply) room full)

@@ -5,11 +5,12 @@ ghost use Rattle.std.specs.Prelude.{◌≡◌, ◌+◌, ◌≤◌, ◌<◌, leng
 ghost use Rattle.std.proofs.lemmas.List.Edits.{sets};
 ghost use Rattle.echo.specs.Line.{newline_at, unfinished};
 ghost use Rattle.echo.specs.Reply.{reply_to};
-ghost use Rattle.echo.specs.Room.{longest_reply, most_held};
+ghost use Rattle.echo.specs.Room.{longest_reply, most_held, filled_after};
 
 use house::echo_line;
 use memchr::memchr;
 use std::io::{Error, ErrorKind, Read};
+use std::mem;
 
 // How many bytes a read brings at most, and how many of replies go out at once at most. Arrays of fixed size: no heap.
 const BUFFER: usize = 65536;
@@ -75,7 +76,8 @@ struct Output {
 impl Output {
     // Answers a line behind what is filled, and writes all out where the next reply might not fit.
     fn answer(&mut self, rt: &(impl Print + Eprint), line: &[u8]) -> Result<(), Failed>
-        ensures { self.new.bytes ≡ sets self.old.bytes self.old.filled (reply_to line.now) }
+        ensures stored { self.new.bytes ≡ sets self.old.bytes self.old.filled (reply_to line.now) }
+        ensures emptied { self.new.filled ≡ filled_after (self.old.filled + length (reply_to line.now)) }
     {
         let count = reply(line, &mut self.bytes[self.filled..]);
         let filled = self.filled + count;
@@ -87,21 +89,23 @@ impl Output {
         send(rt, &self.bytes[..filled])
     }
 
-    // Writes out what is filled.
-    fn flush(&mut self, rt: &(impl Print + Eprint)) -> Result<(), Failed> {
-        let filled = self.filled;
-        self.filled = 0;
+    // Writes out what is filled: nothing is, then.
+    fn flush(&mut self, rt: &(impl Print + Eprint)) -> Result<(), Failed>
+        ensures { self.new.filled ≡ 0 }
+    {
+        let filled = mem::replace(&mut self.filled, 0);
         send(rt, &self.bytes[..filled])
     }
 }
 
-// Answers every whole line of the text, and hands back what follows the last newline.
+// Answers every whole line of the text, writes the replies out, and hands back what follows the last newline.
 fn answer_lines<'a>(
     rt: &(impl Print + Eprint),
     text: &'a [u8],
     out: &mut Output,
 ) -> Result<&'a [u8], Failed>
-    ensures { IfOk result (λ rest. rest.now ≡ unfinished text.now) }
+    ensures left { IfOk result (λ rest. rest.now ≡ unfinished text.now) }
+    ensures emptied { OnOk result (out.new.filled ≡ 0) }
 {
     let mut rest = text;
     // Stays: no place is counted, and what is left of the text is handed back.
@@ -154,7 +158,8 @@ impl Input {
         out: &mut Output,
     ) -> Result<(), Failed>
         requires { end ≤ length self.old.bytes }
-        ensures { OnOk result (take self.new.held self.new.bytes ≡ take most_held (unfinished (take end self.old.bytes))) }
+        ensures kept { OnOk result (take self.new.held self.new.bytes ≡ take most_held (unfinished (take end self.old.bytes))) }
+        ensures emptied { OnOk result (out.new.filled ≡ 0) }
     {
         let left = answer_lines(rt, &self.bytes[..end], out)?.len();
         let from = end - left;
@@ -165,7 +170,9 @@ impl Input {
     }
 
     // Answers the last line, if it lacks its newline.
-    fn finish(&self, rt: &(impl Print + Eprint), out: &mut Output) -> Result<(), Failed> {
+    fn finish(&self, rt: &(impl Print + Eprint), out: &mut Output) -> Result<(), Failed>
+        requires { out.old.filled ≡ 0 }
+    {
         if self.held == 0 {
             return Ok(());
         }
@@ -180,7 +187,9 @@ fn echo_all(
     reader: &mut impl Read,
     input: &mut Input,
     out: &mut Output,
-) -> Result<(), Failed> {
+) -> Result<(), Failed>
+    requires { out.old.filled ≡ 0 }
+{
     for _ in 0..u64::MAX {
         let Some(end) = input.read_more(rt, reader)? else {
             return input.finish(rt, out);

@@ -4,8 +4,8 @@ use mathlib.Core.List.{List, [], ◌∷◌, ◌++◌, append_assoc}
 use Prim.Native.Nat.{ℕ, ◌+◌, ◌-◌, ◌≤◌, ◌<◌}
 use native.Mathlib.Numerals.{add-one}
 use native.Mathlib.Omega.{arith}
-use lib.ListN.{length, get_or, take, drop, set}
-use lib.Seq.{take-suc, length-take-le, set_at}
+use lib.ListN.{length, get_or, take, drop, set, take-append-drop}
+use lib.Seq.{take-suc, length-take-le, set_at, drop-append-le}
 use Rattle.std.specs.List.{copy_within}
 use Rattle.std.proofs.lemmas.List.{drop-take}
 use Rattle.order.specs.Walks.{left, moved}
@@ -29,3 +29,11 @@ module _ {A : Type 0} where
       let f : i + by + (n - i) ≡ n + by = omega arith in
       let g : take (n - i) (drop i l) ≡ left i n l = sym (drop-take i (n - i) l) ∙ ap (λ (m : ℕ). left i m l) e in
       append_assoc (take (i + by) l) (take (n - i) (drop i l)) (drop (i + by + (n - i)) l) ∙ rw (g, f) refl
+
+  -- moved by no place
+  pub moved-zero : (n i : ℕ) (l : List A) → i ≤ n → n ≤ length l → moved 0 i n l ≡ l
+  moved-zero n i l p q =
+      let a : i + 0 ≡ i = omega arith in
+      let b : n + 0 ≡ n = omega arith in
+      let e = sym (drop-append-le i (take n l) (drop n l) (rw (length-take-le n l q) p)) in
+      rw (a, b, e, take-append-drop n l) (take-append-drop i l)

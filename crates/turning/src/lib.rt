@@ -3,11 +3,12 @@
 // Turning the pairs: each is changed in its place or taken out, and those that stay close up.
 ghost use Rattle.std.specs.Prelude.{option_map, ◌≡◌};
 ghost use Rattle.rules.specs.Entries.{alter};
+ghost use Rattle.rules.specs.Lists.{mem};
 ghost use Rattle.rules.specs.Mark.{expired, ticked};
 ghost use Rattle.order.specs.Keys.{keys_held};
 ghost use Rattle.store.specs.Lists.{Fills};
 ghost use Rattle.store.specs.Storage.{pair_of, pair_row, pairs_of};
-ghost use Rattle.turning.specs.Turns.{named, turned, row_of, turn_of};
+ghost use Rattle.turning.specs.Turns.{named, row_of, turn_of};
 
 use order::{Groups, Radios};
 use rows::{
@@ -52,30 +53,54 @@ fn ticked_row(row: [u64; PAIR_WORDS]) -> [u64; PAIR_WORDS]
     [row[PAIR_GROUP], row[PAIR_RADIO], state, row[PAIR_TICKS] + 1]
 }
 
-// Whether an order names this pair: its group and, where radios are listed, its radio.
-fn names(groups: &Groups, radios: Option<&Radios>, row: [u64; PAIR_WORDS]) -> bool
-    ensures { result ≡ named (keys_held groups.now) (option_map (λ r. keys_held r.now) radios.entry) (pair_of row).0 }
+// Whether a key is in a list.
+// Stays: `any`, since `contains` looks at four at a time, and takes half as long again on the lists of a long delete.
+fn is_in(list: &[u64], key: u64) -> bool
+    ensures { result ≡ mem key list.now }
 {
-    if !groups.as_slice().contains(&row[PAIR_GROUP]) {
+    list.iter().any(|&other| key == other)
+}
+
+// Whether an order names this pair: its group and, where radios are listed, its radio.
+fn names(groups: &[u64], radios: Option<&[u64]>, row: [u64; PAIR_WORDS]) -> bool
+    ensures { result ≡ named groups.now (option_map (λ r. r.now) radios.entry) (pair_of row).0 }
+{
+    if !is_in(groups, row[PAIR_GROUP]) {
         return false;
     }
     match radios {
-        Some(radios) => radios.as_slice().contains(&row[PAIR_RADIO]),
+        Some(radios) => is_in(radios, row[PAIR_RADIO]),
         None => true,
     }
 }
 
 // The row of a pair after a turn, where it stays; a pair that the order names and that does not go is leaving, from 0 ticks on.
+// A tick asks for no name.
 // Stays: by Turn, as turn-pairs-unique wants a determined turn.
-fn turned(turn: Turn, named: bool, row: [u64; PAIR_WORDS]) -> Option<[u64; PAIR_WORDS]>
-    ensures { result ≡ row_of (pair_of row).0 (turned turn named (pair_of row).1) }
+fn turned(
+    turn: Turn,
+    groups: &[u64],
+    radios: Option<&[u64]>,
+    row: [u64; PAIR_WORDS],
+) -> Option<[u64; PAIR_WORDS]>
+    ensures { result ≡ row_of (pair_of row).0
+        (turn_of turn groups.now (option_map (λ r. r.now) radios.entry) (pair_of row).0 (pair_of row).1) }
 {
     match turn {
         Turn::Tick => Some(ticked_row(row)),
-        Turn::Remove if named => None,
-        Turn::Leave if named => Some([row[PAIR_GROUP], row[PAIR_RADIO], LEAVING, 0]),
+        Turn::Remove if names(groups, radios, row) => None,
+        Turn::Leave if names(groups, radios, row) => {
+            Some([row[PAIR_GROUP], row[PAIR_RADIO], LEAVING, 0])
+        }
         Turn::Remove | Turn::Leave => Some(row),
     }
+}
+
+// The words of the radios, where any are listed.
+fn words_of(radios: Option<&Radios>) -> Option<&[u64]>
+    ensures { option_map (λ r. r.now) result ≡ option_map (λ r. keys_held r.now) radios.entry }
+{
+    radios.map(|list| list.as_slice())
 }
 
 // Each pair is changed in its place or taken out; those that stay close up in their order, and their count is returned.
@@ -91,11 +116,13 @@ pub fn turn_pairs(
     ensures { Fills pair_row (alter (turn_of turn (keys_held groups.now) (option_map (λ r. keys_held r.now) radios.entry)) (pairs_of count pairs.old))
         pairs.old pairs.new result }
 {
+    let named = groups.as_slice();
+    let listed = words_of(radios);
     let mut kept: usize = 0;
     // Stays: two places of one slice, which no iterator lends both.
     for i in 0..count.min(pairs.len()) {
         let row = pairs[i];
-        if let Some(next) = turned(turn, names(groups, radios, row), row) {
+        if let Some(next) = turned(turn, named, listed, row) {
             pairs[kept] = next;
             kept += 1;
         }

@@ -17,5 +17,5 @@ loop-end-preserved g c =
     let passed = line-passed rest end (sym c.line_end.ensures.first ∙ c.in-Some.is) in
     ap unfinished (take_all _ _ (simp length-drop (omega arith)) ∙ ap (drop 1) behind ∙ next) ∙ passed.1 ∙ c.loop-end.invariant
 
-pub returns : goal.returns
-returns g c = sym (no-line c.loop-end.rest.now (sym c.line_end.ensures.first ∙ c.in_default.is)) ∙ c.loop-end.invariant
+pub returns-clause-left : goal.returns-clause-left
+returns-clause-left g c = sym (no-line c.loop-end.rest.now (sym c.line_end.ensures.first ∙ c.in_default.is)) ∙ c.loop-end.invariant

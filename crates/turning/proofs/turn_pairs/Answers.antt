@@ -1,13 +1,13 @@
 -- `turning::turn_pairs` meets its contract: those of the first i that stay stand at the front, changed; the rest is as it was.
 use mathlib.Core.Path.{refl, sym, ap, ◌∙◌}
-use mathlib.Core.Bool.{Bool}
-use mathlib.Core.List.{[]}
+use Prim.Native.Nat.{ℕ}
+use mathlib.Core.List.{List, []}
 use native.Mathlib.Omega.{arith}
 use lib.ListN.{get_or}
-use Rattle.std.specs.Prelude.{option_map}
+use Rattle.std.specs.Prelude.{Option, option_map}
 use Rattle.order.specs.Keys.{keys_held}
 use Rattle.store.specs.Storage.{pair_of}
-use Rattle.turning.specs.Turns.{turned, row_of, turn_of}
+use Rattle.turning.specs.Turns.{row_of, turn_of}
 use Rattle.turning.proofs.Walk.{pair-stays, pair-goes}
 use Rattle.turning.proofs.turn_pairs.Goals as goal
 use Rattle.turning.proofs.turn_pairs.Goals.{in-Some, in_default}
@@ -18,7 +18,9 @@ loop-i-preserved c =
     let l = c.loop-i in
     let f = turn_of a.turn (keys_held a.groups.now) (option_map (λ r. keys_held r.now) a.radios) in
     let e = pair_of (get_or l.pairs l.i []) in
-    let told = c.turned.ensures ∙ ap (λ (b : Bool). row_of e.0 (turned a.turn b e.1)) c.names.ensures in
+    let told = c.turned.ensures
+        ∙ ap (λ (gs : List ℕ). row_of e.0 (turn_of a.turn gs (option_map (λ r. r.now) c.words_of-listed.result) e.0 e.1)) c.as_slice-named.ensures
+        ∙ ap (λ (rs : Option (List ℕ)). row_of e.0 (turn_of a.turn (keys_held a.groups.now) rs e.0 e.1)) c.words_of-listed.ensures in
     elim c.match-turned.branch [
       | in-Some w ↦ rw (w.kept-is, w.pairs-is) (
         omega arith,

@@ -5,7 +5,7 @@ use Rattle.echo.proofs.Rest.{rest-within, front_kept}
 use Rattle.echo.proofs.Input.answer_all.Goals as goal
 
 pub overflow_sub-from : goal.overflow_sub-from
-overflow_sub-from g c = rest-within c.args.self.now.bytes _ c.args.end (omega arith) c.in_ok-left.ensures
+overflow_sub-from g c = rest-within c.args.self.now.bytes _ c.args.end (omega arith) c.in_ok-left.ensures.left
 
-pub returns : goal.returns
-returns g c = front_kept c.args.self.now.bytes _ c.args.end (omega arith) c.in_ok-left.ensures _ _ most_held c.min-held.ensures c.copy_within.ensures.after
+pub returns-clause-kept : goal.returns-clause-kept
+returns-clause-kept g c = front_kept c.args.self.now.bytes _ c.args.end (omega arith) c.in_ok-left.ensures.left _ _ most_held c.min-held.ensures c.copy_within.ensures.after
