@@ -12,7 +12,7 @@ use crate::spelling::keys_in;
 use crate::{
     GroupAsked, GroupKey, Gtsi, Identity, Itsi, Key, Most, Numbers, Owners, RadioKey, Radios,
 };
-use rows::{MAX_LISTED_OWNERS, MAX_NUMBERS, MAX_OWNERS};
+use rows::{MAX_LISTED_OWNERS, MAX_NUMBERS, MAX_OWNERS, lesser};
 use std::marker::PhantomData;
 
 // Keys of groups or of radios: how many, and their words; the words past them are 0.
@@ -136,7 +136,7 @@ impl<K: Key, const N: usize> Keys<K, N> {
         ensures value { result ≡ length (keys_held self.now) }
         ensures few { result ≤ N }
     {
-        self.count.min(N)
+        lesser(self.count, N)
     }
 
     // Their words.

@@ -96,8 +96,8 @@ pub const LEAVING_UNHEARD: u64 = 6;
 
 pub const T1: u64 = 30;
 
-// The lesser of two numbers.
-// Stays: lesser-unique speaks of it; where a lesser is wanted, std's `min` is written.
+// The lesser of two numbers, by which a count that stands in lent words is held to the places that there are.
+// Stays: lesser-unique speaks of it, and so of each place that cuts by it.
 pub fn lesser(a: usize, b: usize) -> usize
     ensures { result ≡ min a b }
 {

@@ -14,6 +14,7 @@ use rows::{
     HEAD_WORDS, KEY_WORD, LEAVING, LEAVING_UNHEARD, LIFETIME_WORD, MAX_GROUPS, MAX_LETTERS,
     MAX_OWNERS, MAX_PAIRS, NAME_LENGTH, OWNER_COUNT, PAIR_COUNT, PAIR_GROUP, PAIR_RADIO,
     PAIR_STATE, PAIR_TICKS, PAIR_WORDS, REFERENCE_WORD, T1, TEMPORARY_WORD, WAITING,
+    lesser,
 };
 
 // The first key that is above two parts of 24 bits.
@@ -162,7 +163,7 @@ fn used<'a, R>(head: &[u64], word: usize, rows: &'a [R]) -> &'a [R]
     ensures { result.now ≡ take (get_or head.now word 0) rows.now }
 {
     let count = head.get(word).map_or(0, |count| *count as usize);
-    &rows[..count.min(rows.len())]
+    &rows[..lesser(count, rows.len())]
 }
 
 // What is lent for a ledger, to be read: its head, and room for groups and for pairs.

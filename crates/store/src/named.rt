@@ -10,13 +10,13 @@ use crate::Standing;
 use crate::places::place;
 use order::{GroupKey, Groups, RadioKey};
 use refusal::Refusal;
-use rows::{FIRST_OWNER, GROUP_WORDS, MAX_OWNERS, OWNER_COUNT};
+use rows::{FIRST_OWNER, GROUP_WORDS, MAX_OWNERS, OWNER_COUNT, lesser};
 
 // The owners' words of a row: no more than there is room for, whatever its count says.
 pub fn owners_of(row: &[u64; GROUP_WORDS]) -> &[u64]
     ensures { result.now ≡ (group_of row.now).1.owners }
 {
-    let count = (row[OWNER_COUNT] as usize).min(MAX_OWNERS);
+    let count = lesser(row[OWNER_COUNT] as usize, MAX_OWNERS);
     &row[FIRST_OWNER..FIRST_OWNER + count]
 }
 

@@ -13,7 +13,7 @@ ghost use Rattle.turning.specs.Turns.{named, row_of, turn_of};
 use order::{Groups, Radios};
 use rows::{
     LEAVING, LEAVING_UNHEARD, PAIR_GROUP, PAIR_RADIO, PAIR_STATE, PAIR_TICKS, PAIR_WORDS, T1,
-    UNHEARD,
+    UNHEARD, lesser,
 };
 use store::form::timed;
 
@@ -120,7 +120,7 @@ pub fn turn_pairs(
     let listed = words_of(radios);
     let mut kept: usize = 0;
     // Stays: two places of one slice, which no iterator lends both.
-    for i in 0..count.min(pairs.len()) {
+    for i in 0..lesser(count, pairs.len()) {
         let row = pairs[i];
         if let Some(next) = turned(turn, named, listed, row) {
             pairs[kept] = next;

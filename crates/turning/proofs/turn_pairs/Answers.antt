@@ -24,12 +24,12 @@ loop-i-preserved c =
     elim c.match-turned.branch [
       | in-Some w ↦ rw (w.kept-is, w.pairs-is) (
         omega arith,
-        pair-stays f a.pairs.now l.pairs l.i l.kept (omega (arith, c.min-i-end.ensures)) l.invariant.0 l.invariant.1 _ refl
+        pair-stays f a.pairs.now l.pairs l.i l.kept (omega (arith, c.lesser-i-end.ensures)) l.invariant.0 l.invariant.1 _ refl
             w.in-Some.next (sym told ∙ w.in-Some.is),
       )
       | in_default w ↦ rw (w.kept-is, w.pairs-is) (
         omega arith,
-        pair-goes f a.pairs.now l.pairs l.i l.kept (omega (arith, c.min-i-end.ensures)) l.invariant.0 l.invariant.1 _ refl
+        pair-goes f a.pairs.now l.pairs l.i l.kept (omega (arith, c.lesser-i-end.ensures)) l.invariant.0 l.invariant.1 _ refl
             (sym told ∙ w.in_default.is),
       )
     ]

@@ -4,4 +4,4 @@ use borrow.Author.Rules.{rules}
 use Rattle.store.proofs.named.owners_of.Goals as goal
 
 pub returns : goal.returns
-returns c = owners-few c.args.row.now (search rules) c.min-count.result c.min-count.ensures
+returns c = owners-few c.args.row.now (search rules) c.lesser-count.result c.lesser-count.ensures
