@@ -1,7 +1,10 @@
 -- `handing::handover_fault` meets its contract.
-use mathlib.Core.Path.{sym, ◌∙◌}
+use mathlib.Core.Path.{sym, subst, ◌∙◌}
 use Rattle.std.proofs.lemmas.Result.{err_from_is_err_and}
 use Rattle.store.specs.Lent.{contents_of}
+use Rattle.std.proofs.Common.{rules}
+use Rattle.replies.specs.Orders.{Judges}
+use Rattle.order.specs.Steps.{handover_step}
 use Rattle.handing.proofs.Handing.{form-refused, owned-judged}
 use Rattle.handing.proofs.refusing.handover_fault.Goals as goal
 
@@ -14,9 +17,10 @@ returns-in_err-form_fault c =
     (form-refused (contents_of a.lent) (c.written.ensures.1 c.if-not-written.false) a.asker a.group a.owners _
     (sym c.in_err-form_fault.was ∙ c.form_fault.ensures))
 
--- past the second it is judged by whose the group is
+-- past the second it is judged by whose the group is, and what is told of that is handed back
 pub returns : goal.returns
 returns c =
     let a = c.args in
-    owned-judged (contents_of a.lent) (c.written.ensures.1 c.if-not-written.false) a.asker a.group a.owners
-    (sym c.in_ok-form_fault.was ∙ c.form_fault.ensures) _ _ _ c.group_rows.ensures c.group_in-key.ensures c.from.ensures _ c.owned_by.ensures
+    subst (Judges (contents_of a.lent) (handover_step a.asker a.group a.owners)) (search rules)
+    (owned-judged (contents_of a.lent) (c.written.ensures.1 c.if-not-written.false) a.asker a.group a.owners
+    (sym c.in_ok-form_fault.was ∙ c.form_fault.ensures) _ _ _ c.group_rows.ensures c.group_in-key.ensures c.from.ensures _ c.owned_by.ensures)
