@@ -1,4 +1,5 @@
--- What a reader of the definitions may want: a room is never more than 2,048 places, and a reader that starts at or past the line's end takes nothing.
+-- What a reader of the definitions may want: a room is never more than 2,048 places; digits that reach past the line's end are not taken, whatever their
+-- width; and any other reader that starts at or past the end takes nothing.
 use mathlib.Core.Path.{◌≡◌, refl, sym, ap}
 use mathlib.Core.Bool.{Bool, true, false, cond, ◌&&◌}
 use mathlib.Core.List.{List}
@@ -6,7 +7,8 @@ use Prim.Native.Nat.{ℕ, ◌+◌, ◌≤◌, ◌<◌}
 use native.Mathlib.Omega.{arith}
 use lib.Dec.{leb}
 use lib.ListN.{length}
-use borrow.Author.Tests.{leb-true, lt-leb, le-ltb}
+use lib.Seq.{slice_empty}
+use borrow.Author.Tests.{leb-true, le-leb, lt-leb, le-ltb}
 use Rattle.std.specs.Prelude.{Option, Some, None}
 use Rattle.std.proofs.lemmas.Option.{cond_some, none-some}
 use Rattle.words.specs.declared.Taken.{Taken}
@@ -28,16 +30,23 @@ neither : (b : Bool) → (b && false) ≡ false
 neither true = refl
 neither false = refl
 
+-- digits that reach past the line's end: past it any width, at it any but 0
+pub digits-past : (line : List ℕ) (at width : ℕ) → length line < at + width → digits_at line at width ≡ None
+unfolding digits_at enough_at
+digits-past line at width past = rw (lt-leb (at + width) (length line) past, neither (leb width 16))
+
+-- width 0 is taken up to the line's end, and at it too: the value is 0, and the place stays
+pub digits-none : (line : List ℕ) (at : ℕ) → at ≤ length line → digits_at line at 0 ≡ Some (record { value = 0; next = at })
+unfolding digits_at enough_at
+digits-none line at inside =
+    let stays : at + 0 ≡ at = omega arith in
+    rw (stays, le-leb at (length line) inside, slice_empty at line)
+
 -- at or past the line's end
 module _ (line : List ℕ) (at : ℕ) (past : length line ≤ at) where
   pub mark-past : (character : ℕ) → mark_at line at character ≡ None
   unfolding mark_at stands_at
   mark-past character = rw (le-ltb at (length line) past)
-
-  -- no digit is taken there; none are asked for where the width is 0
-  pub digits-past : (width : ℕ) → 0 < width → digits_at line at width ≡ None
-  unfolding digits_at enough_at
-  digits-past width some = rw (lt-leb (at + width) (length line) (omega arith), neither (leb width 16))
 
   pub word-past : (width : ℕ) → word_at line at width ≡ None
   word-past width = rw (mark-past blank)
@@ -66,7 +75,7 @@ module _ (line : List ℕ) (at : ℕ) (past : length line ≤ at) where
 
   pub named-past : named_at line at ≡ None
   unfolding named_at
-  named-past = rw (digits-past 1 (omega arith))
+  named-past = rw (digits-past line at 1 (omega arith))
 
   pub identity-past : identity_at line at ≡ None
   identity-past = rw (mark-past blank)
