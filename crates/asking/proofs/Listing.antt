@@ -59,14 +59,15 @@ module _ (c : Contents) (asker : Itsi) (group : Gtsi) (room : Rows) where
   abbrev pub shown : Rows → Stretch → Rows
   shown rows s = map (λ (row : List ℕ). entry_row (listed (pair_of row))) (stretch_rows rows s)
 
-  -- a stretch holds the list: what the room then holds where it fits, and where not
+  -- a stretch holds the list: what the room then holds where it fits, and where not; as many of its rows are told as there are
   pub record Holds (g : ℕ) (rows : Rows) (s : Stretch) : Type 0 where
-    pub mine : OfGroup g (stretch_rows rows s)
+    pub mine : (n : ℕ) → n ≡ s.to - s.from → OfGroup g (take n (drop s.from rows))
     pub ordered : s.from ≤ s.to
     pub inside : s.to ≤ length rows
-    pub full : length room < length (stretch_rows rows s) → Enumerates c asker group room room (Err NoRoom)
-    pub fits : length (stretch_rows rows s) ≤ length room → (room' : Rows) → room' ≡ onto (shown rows s) room
-        → Enumerates c asker group room room' (Ok (length (stretch_rows rows s)))
+    pub full : (n : ℕ) → n ≡ s.to - s.from → length room < length (take n (drop s.from rows)) → Enumerates c asker group room room (Err NoRoom)
+    pub fits : (n : ℕ) → n ≡ s.to - s.from → length (take n (drop s.from rows)) ≤ length room
+        → (room' : Rows) → room' ≡ onto (map (λ (row : List ℕ). entry_row (listed (pair_of row))) (take n (drop s.from rows))) room
+        → Enumerates c asker group room room' (Ok (length (take n (drop s.from rows))))
 
   -- the asker may see the list, and the stretch is the group's among the rows in use
   module _ {reply : Result ⊤ Refusal} (j : JudgesAsker c asker group reply) (done : reply ≡ Ok tt) (rows : Rows) (r : rows ≡ take (pair_count c) c.pairs)
@@ -117,13 +118,15 @@ module _ (c : Contents) (asker : Itsi) (group : Gtsi) (room : Rows) where
 
     pub holds : Holds g rows s
     holds = record {
-      mine = of-group;
+      mine = λ n e. rw e of-group;
       ordered = stretch.ordered;
       inside = within;
-      full = λ h.
+      full = λ n e m.
+          let h : length room < length (stretch_rows rows s) = rw e at m in
           let t = lt-ltb (length room) (length (stretch_rows rows s)) h in
           record { replies = rw (w.form, refusal, t); lists = rw (w.form, refusal, t) };
-      fits = λ h room' f.
+      fits = λ n e m room' f.
+          let h : length (stretch_rows rows s) ≤ length room = rw e at m in
           let t = le-ltb (length room) (length (stretch_rows rows s)) h in
-          record { replies = rw (w.form, refusal, t) (ap Ok counted); lists = f ∙ rw (w.form, refusal, t) (ap (λ (z : Rows). onto z room) laid) };
+          record { replies = rw (e, w.form, refusal, t) (ap Ok counted); lists = (rw e at f) ∙ rw (w.form, refusal, t) (ap (λ (z : Rows). onto z room) laid) };
     }

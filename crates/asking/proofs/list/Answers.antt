@@ -35,12 +35,12 @@ slice_bounds-members-end c = let h = there (goal.at.slice_bounds-members-end c).
 
 pub list_pairs-requires : goal.list_pairs-requires
 list_pairs-requires c =
-    record { fits = c.if-out-members.false; mine = (there (goal.at.list_pairs-requires c).After-stretch_of-stretch).mine }
+    record { fits = c.if-out-members.false; mine = (there (goal.at.list_pairs-requires c).After-stretch_of-stretch).mine _ (omega arith) }
 
 pub returns-then-out-members : goal.returns-then-out-members
 returns-then-out-members c =
-    rw (← c.asked_group-group.ensures) ((there (goal.at.returns-then-out-members c).After-stretch_of-stretch).full c.if-out-members.true)
+    rw (← c.asked_group-group.ensures) ((there (goal.at.returns-then-out-members c).After-stretch_of-stretch).full _ (omega arith) c.if-out-members.true)
 
 pub returns : goal.returns
 returns c =
-    rw (← c.asked_group-group.ensures) ((there (goal.at.returns c).After-stretch_of-stretch).fits c.if-out-members.false _ c.list_pairs.ensures)
+    rw (← c.asked_group-group.ensures) ((there (goal.at.returns c).After-stretch_of-stretch).fits _ (omega arith) c.if-out-members.false _ c.list_pairs.ensures)
