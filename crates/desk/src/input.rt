@@ -24,7 +24,9 @@ pub struct Line {
 
 impl Line {
     // No byte is held.
-    pub fn new() -> Self {
+    pub fn new() -> Self
+        ensures { result.held ≡ 0 }
+    {
         Line {
             bytes: [0; LINE],
             held: 0,
@@ -36,7 +38,9 @@ impl Line {
     }
 
     // Lets go of the line, for the next.
-    pub fn clear(&mut self) {
+    pub fn clear(&mut self)
+        ensures { self.new.held ≡ 0 }
+    {
         self.held = 0;
     }
 
@@ -60,7 +64,9 @@ pub struct Input {
 
 impl Input {
     // Nothing was read.
-    pub fn new() -> Self {
+    pub fn new() -> Self
+        ensures { (result.at ≡ 0) × (result.end ≡ 0) }
+    {
         Input {
             bytes: [0; BUFFER],
             at: 0,

@@ -3,7 +3,7 @@ use crate::lines::{
     Failure, ended, read_answer, read_definition, read_deletion, read_handing, read_question,
 };
 use crate::memory::Storage;
-use ledger::Shown;
+use ledger::{ENTRY_WORDS, ORDER_WORDS, Shown};
 use refusal::Refusal;
 use text::{put_listed, put_reply, put_shown, refuse};
 use words::{room, word};
@@ -29,24 +29,25 @@ impl Storage {
         ledger::empty(&mut self.head, &self.groups, &self.pairs)
     }
 
-    // D: defines; how many orders go out.
-    fn define(&mut self, line: &[u8]) -> Result<usize, Failure> {
+    // D: defines; the orders that go out.
+    fn define(&mut self, line: &[u8]) -> Result<&[[u64; ORDER_WORDS]], Failure> {
         let order = read_definition(line).ok_or(Refusal::BadLine)?;
         let values = order.record()?;
-        Ok(ledger::define(
+        let count = ledger::define(
             &mut self.head,
             &mut self.groups,
             &mut self.pairs,
             order.asker,
             values,
             first(&mut self.orders, order.size),
-        )?)
+        )?;
+        Ok(first(&mut self.orders, count as u64))
     }
 
-    // X: deletes; how many orders go out.
-    fn delete(&mut self, line: &[u8]) -> Result<usize, Refusal> {
+    // X: deletes; the orders that go out.
+    fn delete(&mut self, line: &[u8]) -> Result<&[[u64; ORDER_WORDS]], Refusal> {
         let order = read_deletion(line).ok_or(Refusal::BadLine)?;
-        ledger::delete(
+        let count = ledger::delete(
             &mut self.head,
             &mut self.groups,
             &mut self.pairs,
@@ -57,7 +58,8 @@ impl Storage {
             order.radios,
             order.acknowledgement,
             first(&mut self.orders, order.size),
-        )
+        )?;
+        Ok(first(&mut self.orders, count as u64))
     }
 
     // A: a radio's answer.
@@ -97,19 +99,20 @@ impl Storage {
         Ok(())
     }
 
-    // L: asker, group, room; how many radios are told.
-    fn list(&mut self, line: &[u8]) -> Result<usize, Refusal> {
+    // L: asker, group, room; the radios that are told.
+    fn list(&mut self, line: &[u8]) -> Result<&[[u64; ENTRY_WORDS]], Refusal> {
         let question = read_question(line).ok_or(Refusal::BadLine)?;
         let taken = room(line, question.next).ok_or(Refusal::BadLine)?;
         let size = ended(line, taken).ok_or(Refusal::BadLine)?;
-        ledger::list(
+        let count = ledger::list(
             &self.head,
             &self.groups,
             &self.pairs,
             question.value.asker,
             question.value.group,
             first(&mut self.radios, size),
-        )
+        )?;
+        Ok(first(&mut self.radios, count as u64))
     }
 
     // S: asker, group.
@@ -125,33 +128,30 @@ impl Storage {
         )
     }
 
-    // What a D is answered with.
-    fn put_defined(&self, sent: Result<usize, Failure>, out: &mut [u8; REPLY]) -> usize
-        ensures { result ≤ longest }
-    {
-        match sent {
-            Ok(count) => put_listed(Ok(count), &self.orders, out),
-            Err(Failure::Order(refusal)) => refuse(refusal, out),
-            Err(Failure::Frame(refused)) => house::refuse_at(refused.refusal, refused.bit, out),
-        }
-    }
-
-    // The reply to a line, which is an order or a question, at the front of `out`: how many bytes it takes.
+    // The reply to a line, which is an order or a question, at the front of `out`: how many bytes it takes. What an order sends comes as its own
+    // rows, so that no other room's are told.
     pub fn reply_to(&mut self, line: &[u8], out: &mut [u8; REPLY]) -> usize
         ensures { result ≤ longest }
     {
         match line.first() {
-            Some(b'D') => {
-                let sent = self.define(line);
-                self.put_defined(sent, out)
-            }
-            Some(b'X') => put_listed(self.delete(line), &self.orders, out),
+            Some(b'D') => match self.define(line) {
+                Ok(orders) => put_listed(Ok(orders.len()), orders, out),
+                Err(Failure::Order(refusal)) => refuse(refusal, out),
+                Err(Failure::Frame(refused)) => house::refuse_at(refused.refusal, refused.bit, out),
+            },
+            Some(b'X') => match self.delete(line) {
+                Ok(orders) => put_listed(Ok(orders.len()), orders, out),
+                Err(refusal) => refuse(refusal, out),
+            },
             Some(b'E') => put_reply(self.clear(line), out),
             Some(b'A') => put_reply(self.answer(line), out),
             Some(b'H') => put_reply(self.hand_over(line), out),
             Some(b'T') => put_reply(self.wait(line), out),
             Some(b'M') => put_reply(self.set_word(line), out),
-            Some(b'L') => put_listed(self.list(line), &self.radios, out),
+            Some(b'L') => match self.list(line) {
+                Ok(radios) => put_listed(Ok(radios.len()), radios, out),
+                Err(refusal) => refuse(refusal, out),
+            },
             Some(b'S') => put_shown(self.show(line), out),
             _ => refuse(Refusal::BadLine, out),
         }
