@@ -41,10 +41,8 @@ impl<'a> Ordered<'a> {
     pub fn new_groups(self, named: &Groups) -> usize
         ensures { result ≡ new_groups (map group_of self.entry.groups.now) (keys_held named.now) }
     {
-        named
-            .as_slice()
-            .iter()
-            .filter(|group| !self.has_group(GroupKey(**group)))
+        (0..named.len())
+            .filter(|j| !self.has_group(named.at(*j)))
             .count()
     }
 
@@ -53,10 +51,8 @@ impl<'a> Ordered<'a> {
     fn new_radios(self, group: GroupKey, radios: &Radios) -> usize
         ensures { result ≡ new_radios (map pair_of self.entry.pairs.now) (keys_held radios.now) group.0 }
     {
-        radios
-            .as_slice()
-            .iter()
-            .filter(|radio| !self.has_pair(group, RadioKey(**radio)))
+        (0..radios.len())
+            .filter(|k| !self.has_pair(group, radios.at(*k)))
             .count()
     }
 
@@ -67,8 +63,8 @@ impl<'a> Ordered<'a> {
         ensures { result ≡ new_pairs (map pair_of self.entry.pairs.now) (keys_held radios.now) (keys_held named.now) }
     {
         let mut n: usize = 0;
-        for group in named.as_slice() {
-            n += self.new_radios(GroupKey(*group), radios);
+        for j in 0..named.len() {
+            n += self.new_radios(named.at(j), radios);
         }
         n
     }

@@ -5,7 +5,7 @@ ghost use Rattle.store.specs.Lists.{Fills};
 ghost use Rattle.replies.specs.Sending.{order_row};
 ghost use Rattle.defining.specs.Sent.{assign_orders};
 
-use order::{GroupKey, Groups, Radios};
+use order::{Groups, Radios};
 use rows::ORDER_WORDS;
 use sending::{ASSIGN, push_orders};
 
@@ -16,8 +16,8 @@ pub fn assign_orders(named: &Groups, radios: &Radios, out: &mut [[u64; ORDER_WOR
 {
     let listed = radios.as_slice();
     let mut at: usize = 0;
-    for group in named.as_slice() {
-        push_orders(out, at, ASSIGN, GroupKey(*group), listed);
+    for j in 0..named.len() {
+        push_orders(out, at, ASSIGN, named.at(j), listed);
         at += listed.len();
     }
     at

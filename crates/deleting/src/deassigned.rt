@@ -55,10 +55,8 @@ impl<'a> Pairs<'a> {
     fn count_among(self, group: GroupKey, radios: &Radios) -> usize
         ensures { result ≡ length (among (map pair_of self.entry.rows.now) group.0 (keys_held radios.now)) }
     {
-        radios
-            .as_slice()
-            .iter()
-            .filter(|radio| self.has(group, RadioKey(**radio)))
+        (0..radios.len())
+            .filter(|k| self.has(group, radios.at(*k)))
             .count()
     }
 
@@ -100,9 +98,10 @@ impl<'a> Pairs<'a> {
             × (out.new ≡ paste out.old at (deassign_rows group.0 (among (map pair_of self.entry.rows.now) group.0 (keys_held radios.now))) result) }
     {
         let mut n: usize = 0;
-        for radio in radios.as_slice() {
-            if self.has(group, RadioKey(*radio)) {
-                out[at + n] = order_row(DEASSIGN, RadioKey(*radio), group);
+        for k in 0..radios.len() {
+            let radio = radios.at(k);
+            if self.has(group, radio) {
+                out[at + n] = order_row(DEASSIGN, radio, group);
                 n += 1;
             }
         }

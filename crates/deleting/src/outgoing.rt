@@ -8,7 +8,6 @@ ghost use Rattle.deleting.specs.Deletes.{named, listed};
 
 use crate::asked::Asked;
 use crate::deassigned::Pairs;
-use order::GroupKey;
 use rows::ORDER_WORDS;
 
 impl<'a> Pairs<'a> {
@@ -17,8 +16,8 @@ impl<'a> Pairs<'a> {
         ensures { result ≡ ltb room (length (deassign_orders asked.now.deassign (listed asked.now) (map pair_of self.entry.rows.now) (named asked.now))) }
     {
         let mut left = room;
-        for group in asked.groups.as_slice() {
-            let n = self.count_deassigned(GroupKey(*group), asked);
+        for j in 0..asked.groups.len() {
+            let n = self.count_deassigned(asked.groups.at(j), asked);
             if left < n {
                 return true;
             }
@@ -34,8 +33,8 @@ impl<'a> Pairs<'a> {
             out.old out.new result }
     {
         let mut at: usize = 0;
-        for group in asked.groups.as_slice() {
-            at += self.push_deassigned(GroupKey(*group), asked, out, at);
+        for j in 0..asked.groups.len() {
+            at += self.push_deassigned(asked.groups.at(j), asked, out, at);
         }
         at
     }

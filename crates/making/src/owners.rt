@@ -8,7 +8,7 @@ ghost use Rattle.store.specs.Storage.{group_of};
 ghost use Rattle.making.specs.Owners.{new_owners, owner_total};
 
 use order::keys::Keys;
-use order::{GroupKey, Groups, Owners, RadioKey};
+use order::{GroupKey, Groups, Owners};
 use rows::{GROUP_WORDS, MAX_OWNERS};
 use std::marker::PhantomData;
 use store::named::{owner_in, owners_of};
@@ -33,8 +33,8 @@ pub fn held_owners(row: [u64; GROUP_WORDS]) -> Owners
 fn new_owners(row: [u64; GROUP_WORDS], come: &Owners) -> usize
     ensures { result ≡ new_owners (group_of row).1.owners (keys_held come.now) }
 {
-    let is_new = |owner: &&u64| !owner_in(row, RadioKey(**owner));
-    come.as_slice().iter().filter(is_new).count()
+    let is_new = |i: &usize| !owner_in(row, come.at(*i));
+    (0..come.len()).filter(is_new).count()
 }
 
 // Whether a group would have too many owners.
@@ -54,8 +54,5 @@ pub fn any_crowded(groups: &[[u64; GROUP_WORDS]], named: &Groups, come: &Owners)
     ensures { result ≡ any (λ g. ltb max_owners (owner_total (looked_up ltb eqb (map group_of groups.now) g) (keys_held come.now)))
         (keys_held named.now) }
 {
-    named
-        .as_slice()
-        .iter()
-        .any(|&g| crowds(groups, GroupKey(g), come))
+    (0..named.len()).any(|i| crowds(groups, named.at(i), come))
 }

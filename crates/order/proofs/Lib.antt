@@ -6,6 +6,7 @@ pub mod Sorting
 pub mod Ordered
 pub mod ListLaws
 pub mod KeyLaws
+pub mod Yielded
 pub mod RangeLaws
 pub mod Words
 pub mod Named

@@ -146,7 +146,7 @@ impl<K: Key, const N: usize> Keys<K, N> {
         &self.key[..self.len()]
     }
 
-    // One of them, key 0 past the end.
+    // One of them, key 0 past the end. Whoever wants keys goes over their places with it: a word could be taken for a key of either.
     pub fn at(&self, i: usize) -> K
         ensures { K.word_of result ≡ get_or (keys_held self.now) i 0 }
     {

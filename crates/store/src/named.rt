@@ -75,8 +75,5 @@ pub fn any_group(
 ) -> bool
     ensures { result ≡ any (λ g. group_fault standing (looked_up ltb eqb (map group_of groups.now) g) asker.0) (keys_held named.now) }
 {
-    named
-        .as_slice()
-        .iter()
-        .any(|&g| has_fault(groups, GroupKey(g), asker, standing))
+    (0..named.len()).any(|i| has_fault(groups, named.at(i), asker, standing))
 }

@@ -6,5 +6,5 @@ use Rattle.replies.specs.Sending.{order_row}
 use Rattle.defining.specs.Sent.{assign_orders}
 use Rattle.defining.proofs.outgoing.assign_orders.Given as goal
 
-abbrev pub invariant-loop-group : goal.invariant-loop-group
-invariant-loop-group l = Fills order_row (assign_orders l.listed (take l.group-index (keys_held l.named))) l.initial.out l.out l.at
+abbrev pub invariant-loop-j : goal.invariant-loop-j
+invariant-loop-j l = Fills order_row (assign_orders l.listed (take l.j (keys_held l.named))) l.initial.out l.out l.at

@@ -7,5 +7,5 @@ use Rattle.store.specs.Storage.{pair_of}
 use Rattle.defining.specs.Totals.{new_pairs}
 use Rattle.defining.proofs.ordered.Ordered.new_pairs.Given as goal
 
-abbrev pub invariant-loop-group : goal.invariant-loop-group
-invariant-loop-group l = l.n ≡ new_pairs (map pair_of l.self.pairs.now) (keys_held l.radios) (take l.group-index (keys_held l.named))
+abbrev pub invariant-loop-j : goal.invariant-loop-j
+invariant-loop-j l = l.n ≡ new_pairs (map pair_of l.self.pairs.now) (keys_held l.radios) (take l.j (keys_held l.named))

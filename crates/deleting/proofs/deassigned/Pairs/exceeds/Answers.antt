@@ -3,7 +3,7 @@ use mathlib.Core.Path.{◌≡◌, refl, sym, ap}
 use mathlib.Core.List.{List, map}
 use native.Mathlib.Omega.{arith}
 use Prim.Native.Nat.{ℕ, ◌≤◌, ◌<◌}
-use lib.ListN.{length, get_or, take}
+use lib.ListN.{length, take}
 use lib.Seq.{take_all}
 use borrow.Author.Tests.{lt-ltb, le-ltb}
 use Rattle.store.specs.Storage.{pair_of}
@@ -14,39 +14,35 @@ use Rattle.deleting.proofs.deassigned.Pairs.exceeds.Goals as goal
 use Rattle.deleting.proofs.deassigned.Pairs.exceeds.Goals.{After-count_deassigned-n}
 
 -- the group at hand is one of those named
-at : (c : After-count_deassigned-n) →
-    get_or c.as_slice-group-items.result.now c.loop-group.group-index 0 ≡ get_or (named c.args.asked.now) c.loop-group.group-index 0
-at c = ap (λ (z : List ℕ). get_or z c.loop-group.group-index 0) c.as_slice-group-items.ensures
-
-inside : (c : After-count_deassigned-n) → c.loop-group.group-index < length (named c.args.asked.now)
-inside c = omega (arith, ap length c.as_slice-group-items.ensures, c.loop-group-test.true)
+inside : (c : After-count_deassigned-n) → c.loop-j.j < length (named c.args.asked.now)
+inside c = omega (arith, c.len-j-end.ensures.value, c.loop-j-test.true)
 
 pub returns-then-left-n : goal.returns-then-left-n
 returns-then-left-n c =
     let d = (goal.at.returns-then-left-n c).After-count_deassigned-n in
     let a = c.args in
-    let l = c.loop-group in
-    let h = within a.asked.now.deassign (listed a.asked.now) (map pair_of a.self.rows.now) (named a.asked.now) l.group-index _ _ _ (inside d) (at d)
+    let l = c.loop-j in
+    let h = within a.asked.now.deassign (listed a.asked.now) (map pair_of a.self.rows.now) (named a.asked.now) l.j _ _ _ (inside d) c.at.ensures
     c.count_deassigned-n.ensures refl in
     let over : a.room < length (deassign_orders a.asked.now.deassign (listed a.asked.now) (map pair_of a.self.rows.now) (named a.asked.now)) =
     omega (arith, h, l.invariant, c.if-left-n.true) in
     sym (lt-ltb _ _ over)
 
-pub loop-group-preserved : goal.loop-group-preserved
-loop-group-preserved c =
-    let d = (goal.at.loop-group-preserved c).After-count_deassigned-n in
+pub loop-j-preserved : goal.loop-j-preserved
+loop-j-preserved c =
+    let d = (goal.at.loop-j-preserved c).After-count_deassigned-n in
     let a = c.args in
-    let l = c.loop-group in
-    let t = counted a.asked.now.deassign (listed a.asked.now) (map pair_of a.self.rows.now) (named a.asked.now) l.group-index _ _ _ (inside d) (at d)
+    let l = c.loop-j in
+    let t = counted a.asked.now.deassign (listed a.asked.now) (map pair_of a.self.rows.now) (named a.asked.now) l.j _ _ _ (inside d) c.at.ensures
     c.count_deassigned-n.ensures refl in
     omega (arith, t, l.invariant, c.if-left-n.false)
 
 pub returns : goal.returns
 returns c =
     let a = c.args in
-    let l = c.loop-group in
-    let all : take l.group-index (named a.asked.now) ≡ named a.asked.now =
-    take_all l.group-index (named a.asked.now) (omega (arith, ap length c.as_slice-group-items.ensures, c.loop-group-test.false)) in
+    let l = c.loop-j in
+    let all : take l.j (named a.asked.now) ≡ named a.asked.now =
+    take_all l.j (named a.asked.now) (omega (arith, c.len-j-end.ensures.value, c.loop-j-test.false)) in
     let e = ap (λ (z : List ℕ). length (deassign_orders a.asked.now.deassign (listed a.asked.now) (map pair_of a.self.rows.now) z)) all in
     let fits : length (deassign_orders a.asked.now.deassign (listed a.asked.now) (map pair_of a.self.rows.now) (named a.asked.now)) ≤ a.room =
     omega (arith, e, l.invariant) in

@@ -8,6 +8,6 @@ use Rattle.deleting.specs.Deassigned.{deassign_orders}
 use Rattle.deleting.specs.Deletes.{named, listed}
 use Rattle.deleting.proofs.deassigned.Pairs.exceeds.Given as goal
 
-abbrev pub invariant-loop-group : goal.invariant-loop-group
-invariant-loop-group l =
-    l.left + length (deassign_orders l.asked.deassign (listed l.asked) (map pair_of l.self.rows.now) (take l.group-index (named l.asked))) ≡ l.room
+abbrev pub invariant-loop-j : goal.invariant-loop-j
+invariant-loop-j l =
+    l.left + length (deassign_orders l.asked.deassign (listed l.asked) (map pair_of l.self.rows.now) (take l.j (named l.asked))) ≡ l.room

@@ -8,7 +8,7 @@ use Rattle.store.specs.Storage.{pair_of}
 use Rattle.deleting.specs.Deassigned.{among, deassign_rows}
 use Rattle.deleting.proofs.deassigned.Pairs.push_among.Given as goal
 
-abbrev pub invariant-loop-radio : goal.invariant-loop-radio
-invariant-loop-radio l =
-    (l.n ≡ length (among (map pair_of l.self.rows.now) l.group.0 (take l.radio-index (keys_held l.radios))))
+abbrev pub invariant-loop-k : goal.invariant-loop-k
+invariant-loop-k l =
+    (l.n ≡ length (among (map pair_of l.self.rows.now) l.group.0 (take l.k (keys_held l.radios))))
     × (l.out ≡ paste l.initial.out l.at (deassign_rows l.group.0 (among (map pair_of l.self.rows.now) l.group.0 (keys_held l.radios))) l.n)
