@@ -1,8 +1,9 @@
 #![tactic(auto)]
 
 // The refusals, each with the number that a caller or a printed reply may show.
-ghost use Rattle.std.specs.Prelude.{◌≡◌};
+ghost use Rattle.std.specs.Prelude.{◌≡◌, Some};
 ghost use Rattle.refusal.specs.Number.{number_of};
+ghost use Rattle.std.specs.Fmt.{decimal};
 ghost use Rattle.refusal.specs.Reply.{PutsRefusal};
 
 use std::fmt;
@@ -63,6 +64,8 @@ impl From<Refusal> for u8 {
 
 // A refusal is shown by its number.
 impl fmt::Display for Refusal {
+    ghost output = { λ refusal. Some (decimal (number_of refusal)) };
+
     fn fmt<W: fmt::Write>(&self, f: &mut fmt::Formatter<W>) -> fmt::Result {
         write!(f, "{}", u8::from(*self))
     }
@@ -71,7 +74,7 @@ impl fmt::Display for Refusal {
 impl Refusal {
     // Puts R and the number, in decimal, to the front of `out`, and answers how many bytes they take: no number has more than two digits.
     // On an `out` under three bytes it puts nothing, and answers 0.
-    // Stays: digits by hand beside Display, since put's contract names each byte, and no contract names what Display prints.
+    // Stays: digits by hand beside Display, which writes to a formatter, where this has lent bytes of which those behind stay.
     pub fn put(self, out: &mut [u8]) -> usize
         ensures { PutsRefusal self out.old out.new result }
     {

@@ -19,8 +19,8 @@ loop-i-preserved c =
     let f = turn_of a.turn (keys_held a.groups.now) (option_map (λ r. keys_held r.now) a.radios) in
     let e = pair_of (get_or l.pairs l.i []) in
     let told = c.turned.ensures
-        ∙ ap (λ (gs : List ℕ). row_of e.0 (turn_of a.turn gs (option_map (λ r. r.now) c.words_of-listed.result) e.0 e.1)) c.as_slice-named.ensures
-        ∙ ap (λ (rs : Option (List ℕ)). row_of e.0 (turn_of a.turn (keys_held a.groups.now) rs e.0 e.1)) c.words_of-listed.ensures in
+    ∙ ap (λ (gs : List ℕ). row_of e.0 (turn_of a.turn gs (option_map (λ r. r.now) c.words_of-listed.result) e.0 e.1)) c.as_slice-named.ensures
+    ∙ ap (λ (rs : Option (List ℕ)). row_of e.0 (turn_of a.turn (keys_held a.groups.now) rs e.0 e.1)) c.words_of-listed.ensures in
     elim c.match-turned.branch [
       | in-Some w ↦ rw (w.kept-is, w.pairs-is) (
         omega arith,
