@@ -3,13 +3,13 @@
 // Turning the pairs: each is changed in its place or taken out, and those that stay close up.
 ghost use Rattle.std.specs.Prelude.{option_map, ◌≡◌};
 ghost use Rattle.rules.specs.Entries.{alter};
-ghost use Rattle.rules.specs.Lists.{mem};
 ghost use Rattle.rules.specs.Mark.{expired, ticked};
 ghost use Rattle.order.specs.Keys.{keys_held};
 ghost use Rattle.store.specs.Lists.{Fills};
 ghost use Rattle.store.specs.Storage.{pair_of, pair_row, pairs_of};
 ghost use Rattle.turning.specs.Turns.{named, row_of, turn_of};
 
+use order::lists::member;
 use order::{Groups, Radios};
 use rows::{
     LEAVING, LEAVING_UNHEARD, PAIR_GROUP, PAIR_RADIO, PAIR_STATE, PAIR_TICKS, PAIR_WORDS, T1,
@@ -53,23 +53,15 @@ fn ticked_row(row: [u64; PAIR_WORDS]) -> [u64; PAIR_WORDS]
     [row[PAIR_GROUP], row[PAIR_RADIO], state, row[PAIR_TICKS] + 1]
 }
 
-// Whether a key is in a list.
-// Stays: `any`, since `contains` looks at four at a time, and takes half as long again on the lists of a long delete.
-fn is_in(list: &[u64], key: u64) -> bool
-    ensures { result ≡ mem key list.now }
-{
-    list.iter().any(|&other| key == other)
-}
-
 // Whether an order names this pair: its group and, where radios are listed, its radio.
 fn names(groups: &[u64], radios: Option<&[u64]>, row: [u64; PAIR_WORDS]) -> bool
     ensures { result ≡ named groups.now (option_map (λ r. r.now) radios.entry) (pair_of row).0 }
 {
-    if !is_in(groups, row[PAIR_GROUP]) {
+    if !member(groups, row[PAIR_GROUP]) {
         return false;
     }
     match radios {
-        Some(radios) => is_in(radios, row[PAIR_RADIO]),
+        Some(radios) => member(radios, row[PAIR_RADIO]),
         None => true,
     }
 }
