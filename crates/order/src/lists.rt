@@ -35,7 +35,7 @@ pub fn wide_group(group: Gtsi) -> bool
 }
 
 // Whether a number is in a list.
-// Stays: `any`, since `contains` looks at four at a time, by which a delete of 64 groups takes 1.3 times as long.
+// Stays: `any`, since `contains` looks at four at a time, which costs more where a list is short, or empty as in a tick.
 pub fn member(list: &[u64], x: u64) -> bool
     ensures { result ≡ mem x list.now }
 {

@@ -1,13 +1,14 @@
 #![tactic(auto)]
 
 // Turning the pairs: each is changed in its place or taken out, and those that stay close up.
-ghost use Rattle.std.specs.Prelude.{option_map, ◌≡◌};
+ghost use Rattle.std.specs.Prelude.{option_map, ◌≡◌, ◌&&◌};
 ghost use Rattle.rules.specs.Entries.{alter};
 ghost use Rattle.rules.specs.Mark.{expired, ticked};
 ghost use Rattle.order.specs.Keys.{keys_held};
 ghost use Rattle.store.specs.Lists.{Fills};
 ghost use Rattle.store.specs.Storage.{pair_of, pair_row, pairs_of};
-ghost use Rattle.turning.specs.Turns.{named, row_of, turn_of};
+ghost use Rattle.rules.specs.Lists.{mem};
+ghost use Rattle.turning.specs.Turns.{listed, turned, row_of, turn_of};
 
 use order::lists::member;
 use order::{Groups, Radios};
@@ -53,35 +54,56 @@ fn ticked_row(row: [u64; PAIR_WORDS]) -> [u64; PAIR_WORDS]
     [row[PAIR_GROUP], row[PAIR_RADIO], state, row[PAIR_TICKS] + 1]
 }
 
-// Whether an order names this pair: its group and, where radios are listed, its radio.
-fn names(groups: &[u64], radios: Option<&[u64]>, row: [u64; PAIR_WORDS]) -> bool
-    ensures { result ≡ named groups.now (option_map (λ r. r.now) radios.entry) (pair_of row).0 }
-{
-    if !member(groups, row[PAIR_GROUP]) {
-        return false;
+// The groups that an order names, and whether the last that was sought is one: the pairs of a group mostly stand together.
+#[derive(Clone, Copy)]
+struct Sought<'a> {
+    groups: &'a [u64],
+    group: u64,
+    named: bool,
+    ghost known: { named ≡ mem group groups.now },
+}
+
+impl<'a> Sought<'a> {
+    // The same groups, and whether this one is among them.
+    fn seek(self, group: u64) -> Sought<'a>
+        ensures { (result.groups ≡ self.entry.groups) × (result.group ≡ group) }
+    {
+        if group == self.group {
+            return self;
+        }
+        Sought {
+            groups: self.groups,
+            group,
+            named: member(self.groups, group),
+        }
     }
+}
+
+// Whether a radio is listed, or none are.
+fn is_listed(radios: Option<&[u64]>, radio: u64) -> bool
+    ensures { result ≡ listed (option_map (λ r. r.now) radios.entry) radio }
+{
     match radios {
-        Some(radios) => member(radios, row[PAIR_RADIO]),
+        Some(radios) => member(radios, radio),
         None => true,
     }
 }
 
 // The row of a pair after a turn, where it stays; a pair that the order names and that does not go is leaving, from 0 ticks on.
-// A tick asks for no name.
 // Stays: by Turn, as turn-pairs-unique wants a determined turn.
 fn turned(
     turn: Turn,
-    groups: &[u64],
+    group_named: bool,
     radios: Option<&[u64]>,
     row: [u64; PAIR_WORDS],
 ) -> Option<[u64; PAIR_WORDS]>
     ensures { result ≡ row_of (pair_of row).0
-        (turn_of turn groups.now (option_map (λ r. r.now) radios.entry) (pair_of row).0 (pair_of row).1) }
+        (turned turn (group_named && listed (option_map (λ r. r.now) radios.entry) (pair_of row).0.1) (pair_of row).1) }
 {
     match turn {
         Turn::Tick => Some(ticked_row(row)),
-        Turn::Remove if names(groups, radios, row) => None,
-        Turn::Leave if names(groups, radios, row) => {
+        Turn::Remove if group_named && is_listed(radios, row[PAIR_RADIO]) => None,
+        Turn::Leave if group_named && is_listed(radios, row[PAIR_RADIO]) => {
             Some([row[PAIR_GROUP], row[PAIR_RADIO], LEAVING, 0])
         }
         Turn::Remove | Turn::Leave => Some(row),
@@ -108,13 +130,19 @@ pub fn turn_pairs(
     ensures { Fills pair_row (alter (turn_of turn (keys_held groups.now) (option_map (λ r. keys_held r.now) radios.entry)) (pairs_of count pairs.old))
         pairs.old pairs.new result }
 {
-    let named = groups.as_slice();
     let listed = words_of(radios);
+    let named = groups.as_slice();
+    let mut sought = Sought {
+        groups: named,
+        group: 0,
+        named: member(named, 0),
+    };
     let mut kept: usize = 0;
     // Stays: two places of one slice, which no iterator lends both.
     for i in 0..lesser(count, pairs.len()) {
         let row = pairs[i];
-        if let Some(next) = turned(turn, named, listed, row) {
+        sought = sought.seek(row[PAIR_GROUP]);
+        if let Some(next) = turned(turn, sought.named, listed, row) {
             pairs[kept] = next;
             kept += 1;
         }
