@@ -55,6 +55,7 @@ fn ticked_row(row: [u64; PAIR_WORDS]) -> [u64; PAIR_WORDS]
 }
 
 // The groups that an order names, and whether the last that was sought is one: the pairs of a group mostly stand together.
+// Stays: `named` tells of the group beside it, and is no way out.
 #[derive(Clone, Copy)]
 struct Sought<'a> {
     groups: &'a [u64],
