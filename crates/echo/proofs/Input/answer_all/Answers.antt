@@ -8,4 +8,6 @@ pub overflow_sub-from : goal.overflow_sub-from
 overflow_sub-from g c = rest-within c.args.self.now.bytes _ c.args.end (omega arith) c.in_ok-left.ensures.left
 
 pub returns-clause-kept : goal.returns-clause-kept
-returns-clause-kept g c = front_kept c.args.self.now.bytes _ c.args.end (omega arith) c.in_ok-left.ensures.left _ _ most_held c.min-held.ensures c.copy_within.ensures.after
+returns-clause-kept g c =
+    front_kept c.args.self.now.bytes _ c.args.end (omega arith) c.in_ok-left.ensures.left
+    _ _ most_held c.min-held.ensures c.copy_within.ensures.after
